@@ -69,6 +69,10 @@ known text ps = record {
   end = ps.1;
 }
 
+-- those of the empty list
+abbrev pub no_params : ℕ → Params
+no_params end = record { branch = None; received = None; rport = None; tag = None; lr = None; end = end }
+
 -- those of a list to which a parameter is added
 abbrev pub with_param : List ℕ → Params → Param → Params
 with_param text found p = record {

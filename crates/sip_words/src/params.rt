@@ -1,6 +1,6 @@
-ghost use Rattle.std.specs.Prelude.{◌≡◌, ◌≤◌, ◌<◌, ℕ, List, [], length, IfSome, option_map};
+ghost use Rattle.std.specs.Prelude.{◌≡◌, ◌≤◌, ◌<◌, ℕ, length, IfSome, option_map};
 ghost use Rattle.sip_words.specs.Spans.{HasParts, KnownHaveParts};
-ghost use Rattle.sip_words.specs.Params.{value_class, value_end, param_at, first_of, with_param, params_at, known};
+ghost use Rattle.sip_words.specs.Params.{value_class, value_end, param_at, first_of, no_params, with_param, params_at, known};
 
 use crate::Span;
 use crate::bytes::Class;
@@ -84,6 +84,7 @@ pub fn param_at(text: &[u8], semicolon: Mark, setting: Setting) -> Option<Param>
 fn first_of(known: Option<Param>, text: &[u8], param: Param, name: &[u8]) -> Option<Param>
     requires parts { HasParts 0 (length text.now) param }
     ensures value { result ≡ first_of name.now text.now known param }
+    ensures parts { (i j : ℕ) → IfSome known (HasParts i j) → HasParts i j param → IfSome result (HasParts i j) }
 {
     if known.is_some() || !same_word(&text[param.name.from..param.name.to], name) {
         return known;
@@ -109,7 +110,7 @@ pub fn params_at(text: &[u8], from: usize, setting: Setting) -> Option<Params>
 impl Params {
     /// Those of the empty list that ends at `end`.
     fn none(end: usize) -> Params
-        ensures { (text : List ℕ) → result ≡ known text ([], end) }
+        ensures { result ≡ no_params end }
     {
         Params {
             branch: None,
@@ -125,6 +126,7 @@ impl Params {
     fn with(self, text: &[u8], param: Param) -> Params
         requires parts { HasParts 0 (length text.now) param }
         ensures value { result ≡ with_param text.now self param }
+        ensures parts { (i j : ℕ) → KnownHaveParts i j self → HasParts i j param → KnownHaveParts i j result }
     {
         Params {
             branch: first_of(self.branch, text, param, b"branch"),
