@@ -1,1 +1,2 @@
 pub mod PlainReader
+pub mod PlainPlaces

@@ -1,6 +1,7 @@
 ghost use Rattle.std.specs.Prelude.{◌≡◌, ◌≤◌, ◌<◌, length, IfSome};
 ghost use Rattle.std.specs.List.{list_all};
 ghost use Rattle.sip_words.specs.Spans.{IsWithin};
+ghost use Rattle.sip_msg.specs.PlainPlaces.{LiesIn};
 ghost use Rattle.sip_msg.specs.PlainReader.{is_uri_byte, exactly_at, uri_at, number_below, address_at, port_at, branch_at, request_line_at, line_to, sent_by_at, branch_param_at, via_line, from_line, to_line, call_id_line, cseq_line, rest_end, plain_at};
 
 use crate::Span;
@@ -272,13 +273,7 @@ fn rest_end(text: &[u8], from: usize) -> Option<usize>
 #[tactic(auto, unfolding(crate::specs::PlainReader::plain_at))]
 pub fn read_plain(b: &[u8]) -> Option<PlainRequest>
     ensures exact { result ≡ plain_at b.now }
-    ensures via { IfSome result (λ plain. IsWithin b.now plain.via) }
-    ensures rport { IfSome result (λ plain. (plain.via.from ≤ plain.rport) × (plain.rport ≤ plain.via.to)) }
-    ensures branch { IfSome result (λ plain. IsWithin b.now plain.branch) }
-    ensures from { IfSome result (λ plain. IsWithin b.now plain.from) }
-    ensures to { IfSome result (λ plain. IsWithin b.now plain.to) }
-    ensures call_id { IfSome result (λ plain. IsWithin b.now plain.call_id) }
-    ensures cseq { IfSome result (λ plain. IsWithin b.now plain.cseq) }
+    ensures places { IfSome result (LiesIn b.now) }
 {
     if b.len() > LONGEST {
         return None;

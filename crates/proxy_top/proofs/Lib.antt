@@ -1,0 +1,5 @@
+mod Digits
+mod Drafts
+mod Sound
+mod Pieces
+mod Run

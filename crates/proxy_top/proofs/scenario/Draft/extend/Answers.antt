@@ -1,0 +1,16 @@
+-- The pending datagram is the last one.
+use Rattle.std.proofs.Common.{◌≡◌, refl, sym, arith, ◌∙◌, Some, None}
+use Rattle.proxy_top.specs.Draft.{arrival_of}
+use Rattle.proxy_top.proofs.Drafts.{not_some}
+use Rattle.proxy_top.proofs.scenario.Draft.extend.Goals as goal
+
+pub returns-clause-taken : goal.returns-clause-taken
+returns-clause-taken c =
+    let here : Some c.in-Some.pending ≡ c.args.self.now.pending = c.in-Some.ensures.value in (
+      c.args.self.now.arrivals.items,
+      arrival_of c.in-Some.pending,
+      not_some c.args.self.now.end (λ ended. let none : Some c.in-Some.pending ≡ None = here ∙ c.requires.draft.after ended in absurd (cc)),
+      rw (← here) refl,
+      omega arith,
+      rw (c.in_ok-extend_from_slice-2.ensures.items, c.in_ok-extend_from_slice.ensures.items) refl,
+    )

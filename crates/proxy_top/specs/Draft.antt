@@ -1,0 +1,21 @@
+-- What a draft of a scenario stands for.
+use Rattle.std.specs.Prelude.{◌≡◌, ℕ, ◌≤◌, List, [], ◌∷◌, ◌++◌, Option, None, Some, IfSome, IsSome, length}
+use Rattle.outside_ports.specs.declared.mem_port.Arrival.{Arrival}
+use Rattle.proxy_top.specs.declared.scenario.Pending.{Pending}
+use Rattle.proxy_top.specs.declared.scenario.Draft.{Draft}
+use Rattle.proxy_top.specs.Scenario.{State}
+
+abbrev pub arrival_of : Pending → Arrival
+arrival_of p = record { at = p.at; from = p.from; bytes = p.bytes.items }
+
+abbrev pub pending_arrival : Option Pending → List Arrival
+pending_arrival None = []
+pending_arrival (Some p) = arrival_of p ∷ []
+
+abbrev pub shown : Draft → State
+shown draft = record { arrivals = draft.arrivals.items ++ pending_arrival draft.pending; end = draft.end }
+
+-- a datagram is pending from the first line `in` to the line `end`
+pub record IsDraft (draft : Draft) : Type 0 where
+  pub before : draft.pending ≡ None → draft.end ≡ None → draft.arrivals.items ≡ []
+  pub after : IsSome draft.end → draft.pending ≡ None

@@ -1,0 +1,9 @@
+pub mod Numerals
+pub mod Splits
+pub mod Scenario
+pub mod Draft
+pub mod Reply
+pub mod Trace
+pub mod Pieces
+pub mod Solo
+pub mod Handled

@@ -1,0 +1,21 @@
+//! The words of a command.
+
+/// What the words ask for.
+#[derive(Clone, Copy)]
+pub enum Command<'a> {
+    /// `sim FILE SCENARIO`
+    Sim { script: &'a str, scenario: &'a str },
+}
+
+/// The command that these words are, without the program's name.
+pub fn read_command(words: &[String]) -> Option<Command<'_>> {
+    match words {
+        [command, script, scenario] if command.as_str() == "sim" => {
+            Some(Command::Sim {
+                script: script.as_str(),
+                scenario: scenario.as_str(),
+            })
+        }
+        _ => None,
+    }
+}

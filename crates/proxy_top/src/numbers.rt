@@ -1,0 +1,103 @@
+//! Numbers and addresses in decimal, as scenarios and traces write them.
+
+ghost use Rattle.std.specs.Prelude.{◌≡◌, ◌^◌, ◌<◌, ◌++◌, ◌∷◌, ℕ, List, IfSome, IfNone, OnOk};
+ghost use Rattle.std.specs.Fmt.{decimal};
+ghost use Rattle.outside_ports.specs.declared.port.Addr.{Addr as Address};
+ghost use Rattle.proxy_top.specs.Numerals.{begins_number, IsNumber, IsSocket, dotted, socket};
+ghost use Rattle.proxy_top.specs.Splits.{SplitsAt, Lacks};
+
+use outside_ports::Addr;
+use std::alloc::{AllocError as NoMemory, Global};
+
+/// Whether the word is `0`, or begins with a byte above `0`.
+fn begins_number(word: &[u8]) -> bool
+    ensures { result ≡ begins_number word.now }
+{
+    word == b"0".as_slice() || word.first().is_some_and(|b| *b > b'0')
+}
+
+/// The number that these digits write, without a sign or a leading zero.
+pub fn number(word: &[u8]) -> Option<u64>
+    ensures found { IfSome result (λ n. IsNumber word.now n) }
+    ensures none { IfNone result ((n : ℕ) → IsNumber word.now n → ⊥) }
+{
+    if !begins_number(word) {
+        return None;
+    }
+    let Ok(digits) = str::from_utf8(word) else {
+        return None;
+    };
+    digits.parse::<u64>().ok()
+}
+
+/// What stands before and behind the first of these bytes.
+pub fn split_once(bytes: &[u8], byte: u8) -> Option<(&[u8], &[u8])>
+    ensures found { IfSome result (λ parts. SplitsAt byte bytes.now parts.0.now parts.1.now) }
+    ensures none { IfNone result (Lacks byte bytes.now) }
+{
+    let at = bytes.iter().position(|b| *b == byte)?;
+    Some((&bytes[..at], &bytes[at + 1..]))
+}
+
+#[tactic(auto, using(crate::proofs::Digits::same_number))]
+fn octet(word: &[u8]) -> Option<u8>
+    ensures found { IfSome result (λ n. word.now ≡ decimal n) }
+    ensures none { IfNone result ((n : ℕ) → n < 256 → word.now ≡ decimal n → ⊥) }
+{
+    match number(word) {
+        Some(n) if n < 256 => Some(n as u8),
+        _ => None,
+    }
+}
+
+/// Four numbers 0 to 255 with dots, the first one highest.
+fn ip(word: &[u8]) -> Option<u32> {
+    let (a, rest) = split_once(word, b'.')?;
+    let (b, rest) = split_once(rest, b'.')?;
+    let (c, d) = split_once(rest, b'.')?;
+    Some(u32::from_be_bytes([octet(a)?, octet(b)?, octet(c)?, octet(d)?]))
+}
+
+#[tactic(auto, using(crate::proofs::Digits::same_number))]
+fn port(word: &[u8]) -> Option<u16>
+    ensures found { IfSome result (λ port. (0 < port) × (word.now ≡ decimal port)) }
+    ensures none { IfNone result ((port : ℕ) → 0 < port → port < 2 ^ 16 → word.now ≡ decimal port → ⊥) }
+{
+    match number(word) {
+        Some(n) if 0 < n && n < 0x1_0000 => Some(n as u16),
+        _ => None,
+    }
+}
+
+/// An address `IP:PORT`, with a port from 1 on.
+pub fn address(word: &[u8]) -> Option<Addr> {
+    let (front, back) = split_once(word, b':')?;
+    Some(Addr {
+        ip: ip(front)?,
+        port: port(back)?,
+    })
+}
+
+/// Writes a number behind the text.
+pub fn push_number(alloc: Global, text: &mut Vec<u8>, number: u64) -> Result<(), NoMemory>
+    ensures { OnOk result (text.new.items ≡ text.old.items ++ decimal number) }
+{
+    text.extend_from_slice(format!(in alloc; "{number}")?.as_bytes())
+}
+
+/// Writes four numbers with dots behind the text.
+pub fn push_ip(alloc: Global, text: &mut Vec<u8>, ip: u32) -> Result<(), NoMemory>
+    ensures { OnOk result (text.new.items ≡ text.old.items ++ dotted ip) }
+{
+    let [a, b, c, d] = ip.to_be_bytes();
+    text.extend_from_slice(format!(in alloc; "{a}.{b}.{c}.{d}")?.as_bytes())
+}
+
+/// Writes `IP:PORT` behind the text.
+pub fn push_address(alloc: Global, text: &mut Vec<u8>, address: Addr) -> Result<(), NoMemory>
+    ensures { OnOk result (text.new.items ≡ text.old.items ++ socket address) }
+{
+    push_ip(alloc, text, address.ip)?;
+    text.push(b':')?;
+    push_number(alloc, text, u64::from(address.port))
+}
