@@ -1,9 +1,8 @@
 //! The wheel.
-ghost use Rattle.std.specs.Prelude.{◌≡◌, ℕ, ◌^◌, ◌<◌, ◌≤◌, Some, None, Option, List, IfOk, IfSome, IfNone, length, replicate, slice_set};
+ghost use Rattle.std.specs.Prelude.{◌≡◌, ℕ, ◌^◌, ◌<◌, ◌≤◌, Some, None, Option, List, IfOk, IfSome, IfNone, IsTrue, ◌↔◌, MatchOption, length, replicate, slice_set};
 ghost use Rattle.timer_wheel.specs.Timers.{IsFirst, IsIdle, IsLeastDue, NoneIsDue};
 
-use std::alloc::AllocError as NoMemory;
-use std::alloc::Global;
+use std::alloc::{AllocError as NoMemory, Global};
 use std::marker::Model;
 
 /// A slot's timer.
@@ -69,6 +68,7 @@ impl Wheel {
         // None comes exactly where no timer is due.
         ensures none_is_due { IfNone result (NoneIsDue self.old now) }
         ensures unchanged { IfNone result (self.new ≡ self.old) }
+        ensures slots { length self.new ≡ length self.old }
     {
         let (slot, timer) = first(self.timers.as_slice())?;
         if timer.due > now {
@@ -96,12 +96,21 @@ fn first(timers: &[Option<Timer>]) -> Option<(u32, Timer)>
 {
     let mut found: Option<(u32, Timer)> = None;
     for slot in 0..timers.len() {
-        let Some(timer) = timers[slot] else {
-            continue;
-        };
-        if found.is_none_or(|(_, earliest)| timer.due < earliest.due) {
+        if let Some(timer) = timers[slot]
+            && is_earlier(timer, found)
+        {
             found = Some((slot as u32, timer));
         }
     }
     found
+}
+
+/// Whether the timer is due earlier than the one that was found before it.
+fn is_earlier(timer: Timer, found: Option<(u32, Timer)>) -> bool
+    ensures { MatchOption found (IsTrue result) (λ earliest. IsTrue result ↔ (timer.due < earliest.1.due)) }
+{
+    match found {
+        Some((_, earliest)) => timer.due < earliest.due,
+        None => true,
+    }
 }
