@@ -1,13 +1,15 @@
-// A library with one function.
+//! The key by which a request finds its server transaction (RFC 3261, section 17.2.3): the branch, host and port of its
+//! top Via, and its method.
+//!
+//! A `KeyView` shows a key in a message's own bytes. A `Key` keeps one, with the host in lower case. Two keys are one
+//! where their hosts are equal without regard to case and their other parts byte by byte.
 #![tactic(auto)]
 
-ghost use Rattle.std.specs.Prelude.{◌≡◌};
-ghost use Rattle.server_key.specs.Echo.{echo_of};
+mod bytes;
+mod key;
 
-// The `ensures` clause is the contract: what `echo` returns is `echo_of` of its argument, a definition
-// in `specs/Echo.antt`, which a caller's clause can cite too.
-pub fn echo(x: usize) -> usize
-    ensures { result ≡ echo_of x }
-{
-    x
-}
+pub use bytes::Bytes;
+pub use key::{Key, KeyView};
+
+#[cfg(test)]
+mod tests;
