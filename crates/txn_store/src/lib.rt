@@ -1,13 +1,13 @@
-// A library with one function.
+//! The index of transactions: which slot the transaction of a key has, and of which generation the slot is. A key comes
+//! in by `Index::claim`, which answers whether it is old or new, and goes out when its slot is freed. The generation
+//! tells one transaction of a slot from the next.
 #![tactic(auto)]
 
-ghost use Rattle.std.specs.Prelude.{◌≡◌};
-ghost use Rattle.txn_store.specs.Echo.{echo_of};
+mod index;
+mod scan;
 
-// The `ensures` clause is the contract: what `echo` returns is `echo_of` of its argument, a definition
-// in `specs/Echo.antt`, which a caller's clause can cite too.
-pub fn echo(x: usize) -> usize
-    ensures { result ≡ echo_of x }
-{
-    x
-}
+pub use index::{Index, IndexEnd, Place};
+pub use server_key::{Key, KeyView};
+
+#[cfg(test)]
+mod tests;
