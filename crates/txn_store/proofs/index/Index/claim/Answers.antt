@@ -7,7 +7,7 @@ use Rattle.txn_store.proofs.index.Index.claim.Goals as goal
 
 apart : (c : goal.Joined-index_mut) → EachKeyIsOnce (claimed c.self.inside.places.items c.in-Some-lowest_free.slot c.in-Some-lowest_free.generation c.in_ok-key.key)
 apart c =
-    let nowhere : IsHeldNowhere c.self.inside.places.items c.in_ok-key.key = subst (λ key. IsHeldNowhere c.self.inside.places.items key) (sym (c.in_ok-key.ensures tt))
+    let nowhere : IsHeldNowhere c.self.inside.places.items c.in_ok-key.key = subst (λ key. IsHeldNowhere c.self.inside.places.items key) (sym c.in_ok-key.ensures)
         (subst (λ places. IsHeldNowhere places (shown_key c.args.key)) (sym c.self.view_is) c.in_default.ensures.held_nowhere) in
     claim_keeps_apart c.self.inside.places.items c.in-Some-lowest_free.slot c.in-Some-lowest_free.generation c.in_ok-key.key c.self.invariant.1 nowhere
 
