@@ -1,7 +1,7 @@
 -- After a claim too, no key is held by two slots.
-use Rattle.std.proofs.Common.{◌≡◌, ℕ, zero, suc, ◌⊎◌, List, [], ◌∷◌, Option, Some, None, slice_set, refl, sym, ap, ◌∙◌, subst, inl, inr, ⊎_elim}
+use Rattle.std.proofs.Common.{◌≡◌, ℕ, zero, suc, ◌⊎◌, List, [], ◌∷◌, Some, slice_set, refl, sym, ap, ◌∙◌, subst, inl, inr, ⊎_elim}
 use Rattle.std.specs.List.{slice_get}
-use Rattle.std.proofs.lemmas.Option.{same_Some, none-some}
+use Rattle.std.proofs.lemmas.Option.{same_Some}
 use Rattle.server_key.specs.declared.key.Key.{Key}
 use Rattle.txn_store.specs.declared.index.Place.{Place}
 use Rattle.txn_store.specs.Places.{Places, Holds, IsHeldNowhere, EachKeyIsOnce}

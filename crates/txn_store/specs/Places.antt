@@ -1,5 +1,5 @@
 -- What an index holds, and what each of its calls answers and leaves.
-use Rattle.std.specs.Prelude.{◌≡◌, ℕ, ◌+◌, ◌≤◌, min, List, Option, Some, None, slice_get, slice_set, replicate}
+use Rattle.std.specs.Prelude.{◌≡◌, ℕ, ◌+◌, ◌≤◌, min, List, Some, None, slice_get, slice_set, replicate}
 use Rattle.std.specs.Option.{option_map_or}
 use Rattle.server_key.specs.declared.key.Key.{Key}
 use Rattle.txn_store.specs.declared.index.Place.{Place}

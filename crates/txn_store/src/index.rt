@@ -4,8 +4,7 @@ ghost use Rattle.server_key.specs.Keys.{shown_key};
 
 use crate::scan::{holder, lowest_free};
 use server_key::{Key, KeyView};
-use std::alloc::AllocError as NoMemory;
-use std::alloc::Global;
+use std::alloc::{AllocError as NoMemory, Global};
 use std::marker::Model;
 
 /// What a claim of a key came to.
@@ -116,10 +115,8 @@ impl Index {
         ensures slots { length self.new ≡ length self.old }
         ensures once { EachKeyIsOnce self.new }
     {
-        let generation = self.places[slot as usize].generation.saturating_add(1);
-        self.places[slot as usize] = Place {
-            generation,
-            key: None,
-        };
+        let place = &mut self.places[slot as usize];
+        place.generation = place.generation.saturating_add(1);
+        place.key = None;
     }
 }

@@ -26,9 +26,9 @@ pub(crate) fn lowest_free(places: &[Place]) -> Option<(u32, u64)>
     ensures lowest { IfSome result (λ at. IsLowestFree places.now at.0 at.1) }
     ensures none { IfNone result (NoneIsFree places.now) }
 {
-    for (slot, place) in places.iter().enumerate() {
-        if place.key.is_none() {
-            return Some((slot as u32, place.generation));
+    for (slot, candidate) in places.iter().enumerate() {
+        if candidate.key.is_none() {
+            return Some((slot as u32, candidate.generation));
         }
     }
     None

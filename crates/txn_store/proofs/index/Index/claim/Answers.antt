@@ -1,4 +1,4 @@
-use Rattle.std.proofs.Common.{◌<◌, arith, length-set, sym, subst}
+use Rattle.std.proofs.Common.{arith, length-set, sym, subst}
 use Rattle.server_key.specs.Keys.{shown_key}
 use Rattle.txn_store.specs.declared.index.Place.{Place}
 use Rattle.txn_store.specs.Places.{EachKeyIsOnce, IsHeldNowhere}
@@ -8,7 +8,7 @@ use Rattle.txn_store.proofs.index.Index.claim.Goals as goal
 apart : (c : goal.Joined-index_mut) → EachKeyIsOnce (claimed c.self.inside.places.items c.in-Some-lowest_free.slot c.in-Some-lowest_free.generation c.in_ok-key.key)
 apart c =
     let nowhere : IsHeldNowhere c.self.inside.places.items c.in_ok-key.key = subst (λ key. IsHeldNowhere c.self.inside.places.items key) (sym c.in_ok-key.ensures)
-        (subst (λ places. IsHeldNowhere places (shown_key c.args.key)) (sym c.self.view_is) c.in_default.ensures.held_nowhere) in
+    (subst (λ places. IsHeldNowhere places (shown_key c.args.key)) (sym c.self.view_is) c.in_default.ensures.held_nowhere) in
     claim_keeps_apart c.self.inside.places.items c.in-Some-lowest_free.slot c.in-Some-lowest_free.generation c.in_ok-key.key c.self.invariant.1 nowhere
 
 pub invariant_of-self : goal.invariant_of-self
