@@ -40,6 +40,10 @@ pub record IsLowestFree (places : Places) (slot generation : ℕ) : Type 0 where
 abbrev pub NoneIsFree : Places → Type 0
 NoneIsFree places = (slot generation : ℕ) → ¬ IsFree places slot generation
 
+-- some slot holds no key
+abbrev pub SomeIsFree : Places → Type 0
+SomeIsFree places = (slot : ℕ) × (generation : ℕ) × IsFree places slot generation
+
 -- what a claim of the key answers: the slot that holds it; else the lowest one that holds no key; else Full
 abbrev pub ClaimAnswers : Places → Key → IndexEnd → Type 0
 ClaimAnswers places key (Old slot generation) = Holds places slot generation key

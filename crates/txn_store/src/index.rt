@@ -60,7 +60,7 @@ impl Model for Index {
 }
 
 impl Index {
-    ghost use Rattle.txn_store.specs.Places.{vacant_places, Holds, IsHeldNowhere, EachKeyIsOnce, ClaimAnswers, after_claim, after_free};
+    ghost use Rattle.txn_store.specs.Places.{vacant_places, Holds, IsHeldNowhere, SomeIsFree, EachKeyIsOnce, ClaimAnswers, after_claim, after_free};
 
     /// An index of this many slots, which hold no key and are of generation 0.
     pub fn new(alloc: Global, slots: u32) -> Result<Index, NoMemory>
@@ -80,7 +80,11 @@ impl Index {
     pub fn claim(&mut self, key: KeyView) -> Result<IndexEnd, NoMemory>
         ensures answers { IfOk result (ClaimAnswers self.old (shown_key key.entry)) }
         ensures after { IfOk result (λ end. self.new ≡ after_claim self.old (shown_key key.entry) end) }
+
+        // Memory is wanted for a new key alone.
         ensures no_memory { OnErr result (self.new ≡ self.old) }
+        ensures memory_for_new { OnErr result (IsHeldNowhere self.old (shown_key key.entry) × SomeIsFree self.old) }
+
         ensures slots { length self.new ≡ length self.old }
         ensures once { EachKeyIsOnce self.new }
     {
