@@ -1,11 +1,10 @@
 -- A ledger stays balanced where a share goes out or comes back, and the first of its holders is the keeper.
-use Rattle.std.proofs.Common.{◌≡◌, ℕ, zero, suc, ◌+◌, ◌<◌, List, [], ◌∷◌, ◌++◌, set, refl, sym, ap, ◌∙◌, subst, arith}
+use Rattle.std.proofs.Common.{◌≡◌, ℕ, zero, suc, ◌+◌, List, [], ◌∷◌, ◌++◌, set, refl, sym, ap, ◌∙◌, subst, arith}
 use mathlib.Core.Option.{some, some-injective, some-ne-none}
 use lib.ListN.{get_elem?}
 use Rattle.buf_pool.specs.declared.ledger.Holder.{Holder}
 use Rattle.buf_pool.specs.declared.ledger.Holder.TheVariants.{Keeper, Lent, Returned}
 use Rattle.buf_pool.specs.Holders.{shares_out, IsBalanced, one_more, one_less}
-use Rattle.buf_pool.specs.Ledgers.{known_out}
 
 shares_out-lent : (holders : List Holder) → shares_out (holders ++ Lent ∷ []) ≡ shares_out holders + 1
 shares_out-lent [] = refl
