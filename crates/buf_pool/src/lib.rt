@@ -1,0 +1,14 @@
+//! The pool of message blocks: a fixed number of blocks, each free or out. A block is taken from the pool and given back
+//! to it, and what is free and what is out always adds up to the size of the pool.
+//!
+//! Each block holds a share of its pool's ledger, so a block can only be given to the pool that it was taken from, and is
+//! given back once.
+#![tactic(auto)]
+
+mod ledger;
+mod pool;
+
+pub use pool::{BLOCK_SIZE, Block, Pool};
+
+#[cfg(test)]
+mod tests;

@@ -1,0 +1,126 @@
+//! The index.
+ghost use Rattle.std.specs.Prelude.{◌≡◌, ℕ, ◌^◌, ◌<◌, ◌↔◌, List, Some, None, IsTrue, IfOk, IfSome, IfNone, OnErr, length};
+ghost use Rattle.server_key.specs.Keys.{shown_key};
+
+use crate::scan::{holder, lowest_free};
+use server_key::{Key, KeyView};
+use std::alloc::{AllocError as NoMemory, Global};
+use std::marker::Model;
+
+/// What a claim of a key came to.
+#[derive(Clone, Copy, Debug, PartialEq, Eq)]
+pub enum IndexEnd {
+    /// The key was held by this slot already.
+    Old { slot: u32, generation: u64 },
+    /// The key was held by no slot, and from now on is held by this one, the lowest that held no key.
+    New { slot: u32, generation: u64 },
+    /// The key is held by no slot, and each slot holds another.
+    Full,
+}
+
+/// A slot's place in the index.
+#[derive(Debug, Drop)]
+pub struct Place {
+    /// How often the slot was freed.
+    pub generation: u64,
+    /// The key of its transaction.
+    pub key: Option<Key>,
+}
+
+impl Place {
+    /// Whether the slot holds the key.
+    pub(crate) fn holds(&self, key: KeyView) -> bool
+        ensures { IsTrue result ↔ (self.now.key ≡ Some (shown_key key.entry)) }
+    {
+        match &self.key {
+            Some(held) => held.is_shown_by(key),
+            None => false,
+        }
+    }
+}
+
+/// The slots from 0 up to a number that is fixed when the index is made, each with its generation and the key that it
+/// holds. A clause sees the list of their places.
+#[derive(Drop)]
+pub struct Index {
+    places: Vec<Place>,
+}
+
+impl Model for Index {
+    ghost use Rattle.std.specs.Prelude.{List, ◌<◌, ◌^◌, length};
+    ghost use Rattle.txn_store.specs.declared.index.Place.{Place};
+
+    ghost Value = { List Place };
+
+    ghost use Rattle.txn_store.specs.Places.{EachKeyIsOnce};
+
+    ghost view = { λ i. i.places.items };
+
+    ghost invariant = { λ i. (length i.places.items < 2 ^ 32) × EachKeyIsOnce i.places.items };
+}
+
+impl Index {
+    ghost use Rattle.txn_store.specs.Places.{vacant_places, Holds, IsHeldNowhere, SomeIsFree, EachKeyIsOnce, ClaimAnswers, after_claim, after_free};
+
+    /// An index of this many slots, which hold no key and are of generation 0.
+    pub fn new(alloc: Global, slots: u32) -> Result<Index, NoMemory>
+        ensures { IfOk result (λ index. index ≡ vacant_places slots) }
+    {
+        let mut places = Vec::with_capacity(alloc, slots as usize)?;
+        for _slot in 0..slots {
+            places.push_reserved(Place {
+                generation: 0,
+                key: None,
+            });
+        }
+        Ok(Index { places })
+    }
+
+    /// The slot of the key: the one that holds it, or else the lowest one that holds no key, which then holds it.
+    pub fn claim(&mut self, key: KeyView) -> Result<IndexEnd, NoMemory>
+        ensures answers { IfOk result (ClaimAnswers self.old (shown_key key.entry)) }
+        ensures after { IfOk result (λ end. self.new ≡ after_claim self.old (shown_key key.entry) end) }
+
+        // Memory is wanted for a new key alone.
+        ensures no_memory { OnErr result (self.new ≡ self.old) }
+        ensures memory_for_new { OnErr result (IsHeldNowhere self.old (shown_key key.entry) × SomeIsFree self.old) }
+
+        ensures slots { length self.new ≡ length self.old }
+        ensures once { EachKeyIsOnce self.new }
+    {
+        if let Some((slot, generation)) = self.find(key) {
+            return Ok(IndexEnd::Old { slot, generation });
+        }
+        let Some((slot, generation)) = lowest_free(self.places.as_slice()) else {
+            return Ok(IndexEnd::Full);
+        };
+        let key = Key::copy_of(*self.places.allocator(), key)?;
+        self.places[slot as usize] = Place {
+            generation,
+            key: Some(key),
+        };
+        Ok(IndexEnd::New { slot, generation })
+    }
+
+    /// The slot that holds the key, and its generation.
+    pub fn find(&self, key: KeyView) -> Option<(u32, u64)>
+        ensures held { IfSome result (λ at. Holds self.now at.0 at.1 (shown_key key.entry)) }
+        ensures held_nowhere { IfNone result (IsHeldNowhere self.now (shown_key key.entry)) }
+        ensures in_range { IfSome result (λ at. at.0 < length self.now) }
+        ensures once { EachKeyIsOnce self.now }
+    {
+        holder(self.places.as_slice(), key)
+    }
+
+    /// Takes the key from the slot, and raises its generation by one.
+    pub fn free(&mut self, slot: u32)
+        requires { slot < length self.old }
+        ensures after { self.new ≡ after_free self.old slot }
+        ensures slots { length self.new ≡ length self.old }
+        ensures once { EachKeyIsOnce self.new }
+    {
+        let place = &mut self.places[slot as usize];
+        place.generation = place.generation.saturating_add(1);
+        place.key = None;
+    }
+}

@@ -1,0 +1,13 @@
+//! The index of transactions: which slot the transaction of a key has, and of which generation the slot is. A key comes
+//! in by `Index::claim`, which answers whether it is old or new, and goes out when its slot is freed. The generation
+//! tells one transaction of a slot from the next.
+#![tactic(auto)]
+
+mod index;
+mod scan;
+
+pub use index::{Index, IndexEnd, Place};
+pub use server_key::{Key, KeyView};
+
+#[cfg(test)]
+mod tests;
