@@ -20,6 +20,7 @@ use Rattle.sip_words.proofs.Steps.{bind_some}
 use Rattle.sip_words.proofs.Pieces.{behind, within, Ends, Lacks, lws_again, mark_again, no_mark, solid, digits_solid, number_again}
 use Rattle.sip_words.proofs.Again.{Stops, stops_digit, stops_name, stops_lws, three, four}
 use Rattle.sip_words.proofs.Takes.{Takes, then, no_blank, none_blank, lws_takes, mark_takes, number_takes}
+use Rattle.sip_fields.proofs.Runs.{nothing_solid, lws_last}
 use Rattle.sip_fields.specs.Host.{port_after, port_at}
 use Rattle.sip_fields.specs.Tail.{next_after, next_at}
 use Rattle.sip_fields.specs.Parts.{PortTree, port, IsPort, port_value, Tail, Last, More, tail, IsTail, next_place}
@@ -86,7 +87,7 @@ port_again setting text i (Some p) rest h is none stops =
     let high : nat_lt (digits_value 10 p.digits) 65536 ≡ true = lt-ltb _ _ is.high in
     rw (m, n, low, high) (ap (λ (k : ℕ). Some (Some (digits_value 10 p.digits), k)) (omega (arith, length-append (mark 58 p.colon) p.digits)))
 
-cond_inner : {A : Type 0} (b : Bool) (o : Option A) (y : A) → cond b o None ≡ Some y → (b ≡ true) × (o ≡ Some y)
+pub cond_inner : {A : Type 0} (b : Bool) (o : Option A) (y : A) → cond b o None ≡ Some y → (b ≡ true) × (o ≡ Some y)
 cond_inner true o y k = (refl, k)
 cond_inner false o y k = absurd (none-some y k)
 
@@ -110,19 +111,12 @@ port_takes setting text i r h = by_mark (mark_at setting 58 text i) refl h
           record { colon = m.is; word = w.2; few = w.3; low = omega (arith, is_low, w.4); high = omega (arith, is_high, w.4) },
         )
 
-nothing_solid : blank_len [] ≡ 0
-unfolding blank_len
-nothing_solid = refl
-
 pub next_again : (text : List ℕ) (i : ℕ) (t : Tail) → i ≤ length text → drop i text ≡ tail t → IsTail t → next_at text i ≡ Some (next_place i t)
 unfolding next_at
 next_again text i (Last bs) le h is =
-    let whole : drop i text ≡ lws bs ++ [] = h ∙ sym (append-nil (lws bs)) in
     let none = no_mark_here Field 44 text i _ h (record { blanks = bs; next = []; whole = sym (append-nil (lws bs)); spacing = tt; solid = nothing_solid; lacks = tt }) in
-    let end = lws_again text i bs [] whole nothing_solid in
-    let past = behind text i (lws bs) [] whole in
-    let same : ((i + length (lws bs)) == length text) ≡ true = eq-eqb _ _ (omega (arith, within text i (lws bs) [] le whole, length-drop (i + length (lws bs)) text, ap length past)) in
-    rw (none, end, same) refl
+    let same : (lws_end text i == length text) ≡ true = eq-eqb _ _ (lws_last text i bs le h) in
+    rw (none, same) refl
 next_again text i (More m rest) le h is = rw (mark_again Field 44 text i m rest (refl, refl) record { before = tt; after = tt } (no_blank rest is) h) refl
 
 pub next_takes : (text : List ℕ) (i : ℕ) (n : Option ℕ) → next_at text i ≡ Some n → (t : Tail) × (drop i text ≡ tail t) × IsTail t

@@ -15,13 +15,14 @@ use Rattle.sip_words.specs.Marks.{mark_at}
 use Rattle.sip_words.specs.Params.{params_at, named, known}
 use Rattle.sip_words.specs.Grammar.{Blank, Space, Tab, FoldSpace, FoldTab, lws, MarkTree, mark, IsMark, IsWord, ValueTree, value, ParamTree, assigned, param, IsParam, value_place, param_place, params, param_places, named_tree, named_place}
 use Rattle.sip_words.proofs.Pieces.{behind, within, part_is, Ends, word_again, lws_again, gap_again, mark_again, solid, token_solid, name_solid, word_at_again}
-use Rattle.sip_words.proofs.Again.{Stops, stops_params, params_again, named_is, three}
+use Rattle.sip_words.proofs.Again.{Stops, stops_token, stops_params, params_again, named_is, three}
 use Rattle.sip_fields.specs.declared.via.Via.{Via}
 use Rattle.sip_fields.specs.Host.{host_at, port_at}
 use Rattle.sip_fields.specs.Tail.{next_at}
 use Rattle.sip_fields.specs.Via.{protocol_at, token_value, branch_of, via_at}
 use Rattle.sip_fields.specs.Parts.{host, IsHost, host_value, port, IsPort, port_value, tail, IsTail, next_place, value_of_param}
 use Rattle.sip_fields.specs.ViaGrammar.{ViaTree, protocol, via, HasToken, IsVia, via_place}
+use Rattle.sip_fields.proofs.Runs.{stops_gap}
 use Rattle.sip_fields.proofs.Hosts.{host_word, host_again}
 use Rattle.sip_fields.proofs.Ports.{no_mark_here, tail_without, params_without, stops_tail, port_ends, port_again, next_again}
 
@@ -74,14 +75,6 @@ sip_solid w x h = word_solid (codes "SIP") w x (λ m v is. by_blank (λ n. str_e
 version_solid : (w x : List ℕ) → str_eq_ignore_ascii_case w (codes "2.0") ≡ true → blank_len (w ++ x) ≡ 0
 version_solid w x h = word_solid (codes "2.0") w x (λ m v is. by_blank (λ n. str_eq_ignore_ascii_case (n ∷ v) (codes "2.0") ≡ false) refl refl refl m is) refl h
 
-pub blank_ends : (bs : List Blank) (rest : List ℕ) → 0 < length bs → Ends class.Token (lws bs ++ rest)
-unfolding has
-blank_ends [] rest h = absurd (omega arith)
-blank_ends (Space ∷ bs) rest h = refl
-blank_ends (Tab ∷ bs) rest h = refl
-blank_ends (FoldSpace ∷ bs) rest h = refl
-blank_ends (FoldTab ∷ bs) rest h = refl
-
 spaced : (m : MarkTree) → IsMark Field m
 spaced m = record { before = tt; after = tt }
 
@@ -98,7 +91,7 @@ protocol_again text i t rest h is none =
     let transport = is.transport in
     let d = mark_again Field 47 text _ t.second_slash _ (refl, refl) (spaced t.second_slash) (token_solid t.transport (lws t.gap ++ rest) transport) in_d in
     let in_e = behind text _ (mark 47 t.second_slash) _ in_d in
-    let e = word_again class.Token text _ t.transport _ in_e transport (blank_ends t.gap rest is.gap) in
+    let e = word_again class.Token text _ t.transport _ in_e transport (stops_token Field _ (stops_gap t.gap rest is.gap)) in
     let in_f = behind text _ t.transport _ in_e in
     let f = gap_again text _ t.gap rest in_f none is.gap in
     rw (a, b, c, d, e, f) (ap (λ (n : ℕ). Some n) (omega (arith, six_length t.sip (mark 47 t.slash) t.version (mark 47 t.second_slash) t.transport (lws t.gap))))
