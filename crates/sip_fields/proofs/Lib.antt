@@ -5,4 +5,6 @@ pub mod Ports
 pub mod ViaAgain
 pub mod ViaTakes
 pub mod CSeqLaw
+pub mod Schemes
+pub mod UriAgain
 pub mod Laws
