@@ -10,6 +10,11 @@ use Rattle.sip_fields.specs.ViaGrammar.{IsViaAt}
 use Rattle.sip_fields.specs.declared.cseq.CSeq.{CSeq}
 use Rattle.sip_fields.specs.CSeq.{cseq_at}
 use Rattle.sip_fields.specs.CSeqGrammar.{IsCSeqAt}
+use Rattle.sip_fields.specs.declared.uri.Uri.{Uri}
+use Rattle.sip_fields.specs.Uri.{uri_at}
+use Rattle.sip_fields.specs.UriGrammar.{IsUriAt}
+use Rattle.sip_fields.proofs.UriAgain.{uri_again}
+use Rattle.sip_fields.proofs.UriTakes.{uri_takes}
 use Rattle.sip_fields.proofs.CSeqLaw.{cseq_again, cseq_takes}
 use Rattle.sip_fields.proofs.ViaAgain.{via_again}
 use Rattle.sip_fields.proofs.ViaTakes.{via_takes}
@@ -39,3 +44,9 @@ cseq_found r b from to h le within = found_by (IsCSeqAt (take to b) from) (cseq_
 
 pub cseq_only : (r : Result CSeq Bad) (b : List ℕ) (from to : ℕ) (c : CSeq) → r ≡ or_bad (cseq_at (take to b) from) → from ≤ to → to ≤ length b → IsCSeqAt (take to b) from c → r ≡ Ok c
 cseq_only r b from to c h le within is = only_by (cseq_at (take to b) from) r c h (cseq_again (take to b) from is.0 (begins b from to le within) is.2 is.1 ∙ ap (λ (x : CSeq). Some x) (sym is.3))
+
+pub uri_found : (r : Result Uri Bad) (b : List ℕ) (from to : ℕ) → r ≡ or_bad (uri_at (take to b) from) → from ≤ to → to ≤ length b → IfOk r (IsUriAt (take to b) from)
+uri_found r b from to h le within = found_by (IsUriAt (take to b) from) (uri_at (take to b) from) r h (λ v e. let t = uri_takes (take to b) from v (begins b from to le within) e in (t.0, t.1, t.2, same_Some _ _ (sym e ∙ uri_again (take to b) from t.0 (begins b from to le within) t.2 t.1)))
+
+pub uri_only : (r : Result Uri Bad) (b : List ℕ) (from to : ℕ) (u : Uri) → r ≡ or_bad (uri_at (take to b) from) → from ≤ to → to ≤ length b → IsUriAt (take to b) from u → r ≡ Ok u
+uri_only r b from to u h le within is = only_by (uri_at (take to b) from) r u h (uri_again (take to b) from is.0 (begins b from to le within) is.2 is.1 ∙ ap (λ (x : Uri). Some x) (sym is.3))

@@ -7,4 +7,5 @@ pub mod ViaTakes
 pub mod CSeqLaw
 pub mod Schemes
 pub mod UriAgain
+pub mod UriTakes
 pub mod Laws
