@@ -15,6 +15,10 @@ use Rattle.sip_fields.specs.Uri.{uri_at}
 use Rattle.sip_fields.specs.UriGrammar.{IsUriAt}
 use Rattle.sip_fields.proofs.UriAgain.{uri_again}
 use Rattle.sip_fields.proofs.UriTakes.{uri_takes}
+use Rattle.sip_fields.specs.declared.name_addr.NameAddr.{NameAddr}
+use Rattle.sip_fields.specs.NameAddr.{name_addr_at, route_at}
+use Rattle.sip_fields.specs.NameAddrGrammar.{IsNameAddrAt, IsRouteAt}
+use Rattle.sip_fields.proofs.NameAddrLaw.{name_addr_again, name_addr_takes, route_value_again, route_value_takes}
 use Rattle.sip_fields.proofs.CSeqLaw.{cseq_again, cseq_takes}
 use Rattle.sip_fields.proofs.ViaAgain.{via_again}
 use Rattle.sip_fields.proofs.ViaTakes.{via_takes}
@@ -50,3 +54,15 @@ uri_found r b from to h le within = found_by (IsUriAt (take to b) from) (uri_at 
 
 pub uri_only : (r : Result Uri Bad) (b : List ℕ) (from to : ℕ) (u : Uri) → r ≡ or_bad (uri_at (take to b) from) → from ≤ to → to ≤ length b → IsUriAt (take to b) from u → r ≡ Ok u
 uri_only r b from to u h le within is = only_by (uri_at (take to b) from) r u h (uri_again (take to b) from is.0 (begins b from to le within) is.2 is.1 ∙ ap (λ (x : Uri). Some x) (sym is.3))
+
+pub name_addr_found : (r : Result NameAddr Bad) (b : List ℕ) (from to : ℕ) → r ≡ or_bad (name_addr_at (take to b) from) → from ≤ to → to ≤ length b → IfOk r (IsNameAddrAt (take to b) from)
+name_addr_found r b from to h le within = found_by (IsNameAddrAt (take to b) from) (name_addr_at (take to b) from) r h (λ v e. let t = name_addr_takes (take to b) from v e in (t.0, t.1, t.2, same_Some _ _ (sym e ∙ name_addr_again (take to b) from t.0 (begins b from to le within) t.2 t.1)))
+
+pub name_addr_only : (r : Result NameAddr Bad) (b : List ℕ) (from to : ℕ) (n : NameAddr) → r ≡ or_bad (name_addr_at (take to b) from) → from ≤ to → to ≤ length b → IsNameAddrAt (take to b) from n → r ≡ Ok n
+name_addr_only r b from to n h le within is = only_by (name_addr_at (take to b) from) r n h (name_addr_again (take to b) from is.0 (begins b from to le within) is.2 is.1 ∙ ap (λ (x : NameAddr). Some x) (sym is.3))
+
+pub route_found : (r : Result NameAddr Bad) (b : List ℕ) (from to : ℕ) → r ≡ or_bad (route_at (take to b) from) → from ≤ to → to ≤ length b → IfOk r (IsRouteAt (take to b) from)
+route_found r b from to h le within = found_by (IsRouteAt (take to b) from) (route_at (take to b) from) r h (λ v e. let t = route_value_takes (take to b) from v (begins b from to le within) e in (t.0, t.1, t.2, same_Some _ _ (sym e ∙ route_value_again (take to b) from t.0 (begins b from to le within) t.2 t.1)))
+
+pub route_only : (r : Result NameAddr Bad) (b : List ℕ) (from to : ℕ) (n : NameAddr) → r ≡ or_bad (route_at (take to b) from) → from ≤ to → to ≤ length b → IsRouteAt (take to b) from n → r ≡ Ok n
+route_only r b from to n h le within is = only_by (route_at (take to b) from) r n h (route_value_again (take to b) from is.0 (begins b from to le within) is.2 is.1 ∙ ap (λ (x : NameAddr). Some x) (sym is.3))

@@ -8,4 +8,7 @@ pub mod CSeqLaw
 pub mod Schemes
 pub mod UriAgain
 pub mod UriTakes
+pub mod Displays
+pub mod Addresses
+pub mod NameAddrLaw
 pub mod Laws
