@@ -1,26 +1,24 @@
 -- Addresses: what the grammar spells is read again, and what is read is spelled by the grammar.
-use Rattle.std.proofs.Common.{◌≡◌, ◌≢◌, ℕ, zero, suc, ◌+◌, ◌-◌, ◌<◌, ◌≤◌, Bool, true, false, cond, List, [], ◌∷◌, ◌++◌, length, take, drop, ◌==◌, refl, subst, sym, ap, ◌∙◌, inl, inr, arith, Option, Some, None, append_assoc, length-append, length-drop, length-take-le}
+use Rattle.std.proofs.Common.{◌≡◌, ℕ, suc, ◌+◌, ◌-◌, ◌≤◌, Bool, true, false, List, [], ◌∷◌, ◌++◌, length, take, drop, refl, subst, sym, ap, ◌∙◌, inl, inr, arith, Option, Some, None, append_assoc, length-append, length-take-le}
 use Rattle.std.specs.Prelude.{slice_range, ◌⊎◌}
-use Rattle.std.specs.List.{AllByRecursion}
-use Rattle.std.proofs.lemmas.Bool.{cases_Bool, both_ways}
+use Rattle.std.proofs.lemmas.Bool.{both_ways}
 use Rattle.std.proofs.lemmas.List.{drop-take}
-use Rattle.std.proofs.lemmas.Option.{cond_some, same_Some, none-some}
+use Rattle.std.proofs.lemmas.Option.{cond_some, same_Some}
 use Rattle.sip_words.specs.declared.Span.{Span}
 use Rattle.sip_words.specs.declared.bytes.Class.TheVariants as class
 use Rattle.sip_words.specs.declared.marks.Setting.TheVariants.{Field}
 use Rattle.sip_words.specs.Bytes.{◌and◌, has}
 use Rattle.sip_words.specs.Spans.{span}
-use Rattle.sip_words.specs.Words.{◌>>=◌, run_end, word_end, blank_len, lws_end, stands}
-use Rattle.sip_words.specs.Grammar.{lws, IsWord}
+use Rattle.sip_words.specs.Words.{run_end, word_end, blank_len, stands}
+use Rattle.sip_words.specs.Grammar.{IsWord}
 use Rattle.sip_words.proofs.Steps.{bind_some}
-use Rattle.sip_words.proofs.Pieces.{behind, within, part_is, Ends, Lacks, run_again, word_again, lws_again, stands_at, stands_no, other_byte, solid}
+use Rattle.sip_words.proofs.Pieces.{behind, within, part_is, Ends, Lacks, run_again, word_again, stands_at, stands_no, other_byte, solid}
 use Rattle.sip_words.proofs.Again.{Stops}
 use Rattle.sip_words.proofs.Takes.{Takes, then, run_takes, word_takes, stands_takes, part_taken}
-use Rattle.sip_fields.specs.declared.uri.Uri.{Uri}
 use Rattle.sip_fields.specs.Uri.{is_absolute, uri_at}
 use Rattle.sip_fields.specs.NameAddr.{names_end, display_end, open_at, closed_uri, bare_uri, uri_from, any_uri, route_uri}
-use Rattle.sip_fields.specs.UriGrammar.{Starts, AreAll, IsScheme, AbsoluteTree, absolute, IsAbsolute, UriTree, uri, IsUri, uri_place}
-use Rattle.sip_fields.specs.NameAddrGrammar.{DisplayTree, display, IsDisplay, AddressTree, Bracketed, Plain, address, IsBracketed, IsPlain, IsAddress, address_place, IsRouteAddress}
+use Rattle.sip_fields.specs.UriGrammar.{AreAll, IsScheme, AbsoluteTree, absolute, IsAbsolute}
+use Rattle.sip_fields.specs.NameAddrGrammar.{display, AddressTree, Bracketed, Plain, address, IsAddress, address_place, IsRouteAddress}
 use Rattle.sip_fields.proofs.Schemes.{are_tokens, absolute_length, absolute_again, absolute_takes, scheme_solid}
 use Rattle.sip_fields.proofs.UriAgain.{uri_again}
 use Rattle.sip_fields.proofs.UriTakes.{uri_takes}

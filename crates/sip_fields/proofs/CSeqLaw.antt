@@ -1,19 +1,19 @@
 -- CSeq: what the grammar spells is read again, and what is read is spelled by the grammar.
-use Rattle.std.proofs.Common.{◌≡◌, ℕ, ◌+◌, ◌-◌, ◌<◌, ◌≤◌, ◌^◌, Bool, true, false, cond, List, [], ◌∷◌, ◌++◌, length, drop, ◌==◌, refl, subst, sym, ap, ◌∙◌, inl, inr, arith, Option, Some, None, append_assoc, length-append}
+use Rattle.std.proofs.Common.{◌≡◌, ℕ, ◌<◌, ◌≤◌, ◌^◌, true, List, [], ◌++◌, length, drop, ◌==◌, refl, subst, ap, ◌∙◌, arith, Some}
 use Rattle.std.specs.Prelude.{nat_lt}
 use Rattle.std.specs.Str.Parse.{digits_value}
 use Rattle.std.proofs.lemmas.Bool.{eq-eqb, eqb-true, lt-ltb, ltb-true}
 use Rattle.std.proofs.lemmas.List.{append-nil, drop_all}
-use Rattle.std.proofs.lemmas.Option.{cond_some, none-some}
+use Rattle.std.proofs.lemmas.Option.{cond_some}
 use Rattle.sip_words.specs.declared.bytes.Class.TheVariants as class
 use Rattle.sip_words.specs.declared.marks.Setting.TheVariants.{Field}
-use Rattle.sip_words.specs.Words.{◌>>=◌, word_end, lws_end, gap_end}
+use Rattle.sip_words.specs.Words.{word_end, lws_end, gap_end}
 use Rattle.sip_words.specs.Numbers.{number_at}
-use Rattle.sip_words.specs.Grammar.{lws, IsWord}
+use Rattle.sip_words.specs.Grammar.{lws}
 use Rattle.sip_words.proofs.Steps.{bind_some}
 use Rattle.sip_words.proofs.Pieces.{behind, within, word_again, lws_again, gap_again, number_again, token_solid, digits_solid}
 use Rattle.sip_words.proofs.Again.{stops_token, stops_digit}
-use Rattle.sip_words.proofs.Takes.{Takes, lws_takes, word_takes, gap_takes, number_takes}
+use Rattle.sip_words.proofs.Takes.{lws_takes, word_takes, gap_takes, number_takes}
 use Rattle.sip_fields.specs.declared.cseq.CSeq.{CSeq}
 use Rattle.sip_fields.specs.CSeq.{cseq_at}
 use Rattle.sip_fields.specs.Parts.{Last}

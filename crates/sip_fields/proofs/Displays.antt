@@ -1,5 +1,5 @@
 -- Display names: what the grammar spells is read again, and what is read is spelled by the grammar.
-use Rattle.std.proofs.Common.{◌≡◌, ◌≢◌, ℕ, zero, suc, ◌+◌, ◌-◌, ◌<◌, ◌≤◌, Bool, true, false, cond, List, [], ◌∷◌, ◌++◌, length, drop, ◌==◌, refl, subst, sym, ap, ◌∙◌, inl, inr, arith, Option, Some, None, append_assoc, length-append}
+use Rattle.std.proofs.Common.{◌≡◌, ℕ, ◌+◌, ◌<◌, false, List, [], ◌∷◌, ◌++◌, length, drop, refl, subst, sym, ap, ◌∙◌, inl, inr, arith, Option, Some, None, append_assoc, length-append}
 use Rattle.std.specs.Option.{option_map}
 use Rattle.std.specs.List.{flat_map, AllByRecursion}
 use Rattle.std.proofs.lemmas.Bool.{cases_Bool, both_ways}
@@ -8,17 +8,17 @@ use Rattle.std.proofs.lemmas.Option.{cond_some, same_Some, none-some}
 use Rattle.sip_words.specs.declared.bytes.Class.TheVariants as class
 use Rattle.sip_words.specs.declared.marks.Setting.TheVariants.{Field}
 use Rattle.sip_words.specs.Bytes.{has}
-use Rattle.sip_words.specs.Words.{◌>>=◌, word_end, blank_len, lws_end, quoted_end, stands}
-use Rattle.sip_words.specs.Many.{Next, Item, Done, Wrong, Repeats, many}
-use Rattle.sip_words.specs.Grammar.{Blank, lws, IsWord, Quotable, quotable, IsQuotable, quoted}
+use Rattle.sip_words.specs.Words.{word_end, blank_len, lws_end, quoted_end, stands}
+use Rattle.sip_words.specs.Many.{Repeats, many}
+use Rattle.sip_words.specs.Grammar.{Blank, lws, IsWord, quotable, quoted}
 use Rattle.sip_words.proofs.Steps.{bind_some}
 use Rattle.sip_words.proofs.ManyLaws.{many_repeats}
 use Rattle.sip_words.proofs.Digits.{word_is}
 use Rattle.sip_words.proofs.Pieces.{behind, Ends, Lacks, word_again, lws_again, quote_again, stands_at, stands_no, other_byte, solid, token_solid}
 use Rattle.sip_words.proofs.Again.{stops_token}
 use Rattle.sip_words.proofs.Takes.{Takes, then, lws_takes, word_takes, quote_takes, stands_takes}
-use Rattle.sip_fields.specs.NameAddr.{name_item, next_name, names_end, display_end, open_at}
-use Rattle.sip_fields.specs.NameAddrGrammar.{NameTree, name, IsName, DisplayTree, Nothing, Quotation, Tokens, display, IsDisplay}
+use Rattle.sip_fields.specs.NameAddr.{next_name, names_end, display_end, open_at}
+use Rattle.sip_fields.specs.NameAddrGrammar.{SpacedToken, spaced_token, IsSpacedToken, DisplayTree, Nothing, Quotation, Tokens, display, IsDisplay}
 use Rattle.sip_fields.proofs.Runs.{run_ends, no_word, stops_gap}
 use Rattle.sip_fields.proofs.Names.{name_is, names_go, names_stop}
 
@@ -41,13 +41,13 @@ one_name text i w gap rest h is ends none =
     let end = lws_again text _ gap rest at none in
     sym (names_go text i (i + length w) (sym word)) ∙ ap (λ n. names_end text n) end
 
-more_length : (first : List ℕ) (n : NameTree) (more : List NameTree) (gap : List Blank) → length (first ++ (flat_map name (n ∷ more) ++ lws gap)) ≡ length first + (length (lws n.gap) + length (n.token ++ (flat_map name more ++ lws gap)))
-more_length first n more gap = lengths first (lws n.gap) n.token (flat_map name more) (lws gap)
+more_length : (first : List ℕ) (n : SpacedToken) (more : List SpacedToken) (gap : List Blank) → length (first ++ (flat_map spaced_token (n ∷ more) ++ lws gap)) ≡ length first + (length (lws n.gap) + length (n.token ++ (flat_map spaced_token more ++ lws gap)))
+more_length first n more gap = lengths first (lws n.gap) n.token (flat_map spaced_token more) (lws gap)
   where
     lengths : (a b c d e : List ℕ) → length (a ++ (((b ++ c) ++ d) ++ e)) ≡ length a + (length b + length (c ++ (d ++ e)))
     lengths a b c d e = simp length-append (omega arith)
 
-names_again : (text : List ℕ) (i : ℕ) (first : List ℕ) (more : List NameTree) (gap : List Blank) (rest : List ℕ) → drop i text ≡ (first ++ (flat_map name more ++ lws gap)) ++ (60 ∷ rest) → IsWord class.Token first → AllByRecursion IsName more → names_end text i ≡ Some (i + length (first ++ (flat_map name more ++ lws gap)))
+names_again : (text : List ℕ) (i : ℕ) (first : List ℕ) (more : List SpacedToken) (gap : List Blank) (rest : List ℕ) → drop i text ≡ (first ++ (flat_map spaced_token more ++ lws gap)) ++ (60 ∷ rest) → IsWord class.Token first → AllByRecursion IsSpacedToken more → names_end text i ≡ Some (i + length (first ++ (flat_map spaced_token more ++ lws gap)))
 names_again text i first [] gap rest h is are =
     let whole : drop i text ≡ first ++ (lws gap ++ (60 ∷ rest)) = h ∙ append_assoc first (lws gap) (60 ∷ rest) in
     let one = one_name text i first gap (60 ∷ rest) whole is (gap_ends gap rest) (solid 60 rest (refl, refl)) in
@@ -55,9 +55,9 @@ names_again text i first [] gap rest h is are =
     one ∙ no_names text _ _ at open_ends ∙ ap (λ (n : ℕ). Some n) (omega (arith, length-append first (lws gap)))
 names_again text i first (n ∷ more) gap rest h is are =
     let is_name = are.0 in
-    let tail = n.token ++ (flat_map name more ++ lws gap) in
-    let whole : drop i text ≡ first ++ (lws n.gap ++ (tail ++ (60 ∷ rest))) = h ∙ regroup first (lws n.gap) n.token (flat_map name more) (lws gap) (60 ∷ rest) in
-    let none : blank_len (tail ++ (60 ∷ rest)) ≡ 0 = ap blank_len (append_assoc n.token (flat_map name more ++ lws gap) (60 ∷ rest)) ∙ token_solid n.token _ is_name.token in
+    let tail = n.token ++ (flat_map spaced_token more ++ lws gap) in
+    let whole : drop i text ≡ first ++ (lws n.gap ++ (tail ++ (60 ∷ rest))) = h ∙ regroup first (lws n.gap) n.token (flat_map spaced_token more) (lws gap) (60 ∷ rest) in
+    let none : blank_len (tail ++ (60 ∷ rest)) ≡ 0 = ap blank_len (append_assoc n.token (flat_map spaced_token more ++ lws gap) (60 ∷ rest)) ∙ token_solid n.token _ is_name.token in
     let one = one_name text i first n.gap _ whole is (stops_token Field _ (stops_gap n.gap _ is_name.gap)) none in
     let at = behind text _ (lws n.gap) _ (behind text i first _ whole) in
     let others = names_again text (i + length first + length (lws n.gap)) n.token more gap rest at is_name.token are.1 in
@@ -86,7 +86,7 @@ display_again text i (Quotation q gap) rest h is =
     let gap_is = lws_again text _ gap _ at (solid 60 rest (refl, refl)) in
     rw (stands_at 34 text i _ whole, end, e, gap_is) (ap (λ (n : ℕ). Some n) (omega (arith, length-append (quoted q) (lws gap))))
 display_again text i (Tokens first more gap) rest h is =
-    let whole = h ∙ append_assoc first (flat_map name more ++ lws gap) (60 ∷ rest) in
+    let whole = h ∙ append_assoc first (flat_map spaced_token more ++ lws gap) (60 ∷ rest) in
     rw (stands_no 34 text i _ whole (word_lacks 34 first _ token_no_quote is.0)) (names_again text i first more gap rest h is.0 is.1)
 
 pub open_again : (text : List ℕ) (i : ℕ) (d : DisplayTree) (rest : List ℕ) → drop i text ≡ display d ++ (60 ∷ rest) → IsDisplay d → open_at text i ≡ Some (i + length (display d) + 1)
@@ -96,7 +96,7 @@ open_again text i d rest h is = rw (display_again text i d rest h is, stands_at 
 pub display_solid : (d : DisplayTree) (rest : List ℕ) → IsDisplay d → blank_len (display d ++ (60 ∷ rest)) ≡ 0
 display_solid Nothing rest is = solid 60 rest (refl, refl)
 display_solid (Quotation q gap) rest is = solid 34 _ (refl, refl)
-display_solid (Tokens first more gap) rest is = ap blank_len (append_assoc first (flat_map name more ++ lws gap) (60 ∷ rest)) ∙ token_solid first _ is.0
+display_solid (Tokens first more gap) rest is = ap blank_len (append_assoc first (flat_map spaced_token more ++ lws gap) (60 ∷ rest)) ∙ token_solid first _ is.0
 
 -- tokens, or nothing
 abbrev IsNames : DisplayTree → Type 0
@@ -136,10 +136,10 @@ more_names text i e j h t =
     by_tree w gap a b is Nothing c is_more names = record { tree = Tokens w [] gap; takes = then a (subst (λ (v : List ℕ). Takes text e j v) (append-nil (lws gap)) (then b c)); is = (is, tt); names = tt }
     by_tree w gap a b is (Quotation q k) c is_more names = absurd names
     by_tree w gap a b is (Tokens first more last) c is_more names =
-        let at = c.whole ∙ append_assoc first (flat_map name more ++ lws last) (drop j text) in
-        let one : IsName record { gap = gap; token = first } = record { gap = some_gap gap first _ b at is_more.0; token = is_more.0 } in
+        let at = c.whole ∙ append_assoc first (flat_map spaced_token more ++ lws last) (drop j text) in
+        let one : IsSpacedToken record { gap = gap; token = first } = record { gap = some_gap gap first _ b at is_more.0; token = is_more.0 } in
         let all = then a (then b c) in
-        record { tree = Tokens w (record { gap = gap; token = first } ∷ more) last; takes = subst (λ (v : List ℕ). Takes text i j v) (regroup w (lws gap) first (flat_map name more) (lws last)) all; is = (is, (one, is_more.1)); names = tt }
+        record { tree = Tokens w (record { gap = gap; token = first } ∷ more) last; takes = subst (λ (v : List ℕ). Takes text i j v) (regroup w (lws gap) first (flat_map spaced_token more) (lws last)) all; is = (is, (one, is_more.1)); names = tt }
 
 repeat_names : (text : List ℕ) (i : ℕ) (ends : List ℕ) (j : ℕ) → Repeats (next_name text) i ends j → TakenNames text i j
 repeat_names text i [] j h = record { tree = Nothing; takes = record { whole = ap (λ n. drop n text) h.1; end = omega (arith, h.1) }; is = tt; names = tt }

@@ -4,14 +4,13 @@ use Rattle.std.specs.Prelude.{codes}
 use Rattle.sip_words.specs.declared.Span.{Span}
 use Rattle.sip_words.specs.declared.marks.Setting.TheVariants.{Field}
 use Rattle.sip_words.specs.declared.params.Param.{Param}
-use Rattle.sip_words.specs.Spans.{span}
-use Rattle.sip_words.specs.Words.{◌>>=◌, lws_end}
-use Rattle.sip_words.specs.Params.{params_at, known, named}
+use Rattle.sip_words.specs.Words.{lws_end}
+use Rattle.sip_words.specs.Params.{params_at}
 use Rattle.sip_words.specs.Grammar.{Blank, lws, params, named_place}
 use Rattle.sip_words.proofs.Steps.{bind_some}
 use Rattle.sip_words.proofs.Pieces.{behind, within, lws_again}
 use Rattle.sip_words.proofs.Again.{stops_params, params_again, named_is}
-use Rattle.sip_words.proofs.Takes.{Takes, lws_takes, TakenParams, params_takes}
+use Rattle.sip_words.proofs.Takes.{Takes, lws_takes, params_takes}
 use Rattle.sip_fields.specs.declared.name_addr.NameAddr.{NameAddr}
 use Rattle.sip_fields.specs.Tail.{next_at}
 use Rattle.sip_fields.specs.NameAddr.{any_uri, route_uri, tag_of, rest_at, name_addr_at, route_at}

@@ -1,6 +1,6 @@
 -- Ports, and what stands behind a value: what the grammar spells is read again, and what is read is spelled by the grammar.
-use Rattle.std.proofs.Common.{◌≡◌, ◌≢◌, ℕ, zero, suc, ◌+◌, ◌-◌, ◌<◌, ◌≤◌, Bool, true, false, cond, List, [], ◌∷◌, ◌++◌, length, drop, ◌==◌, refl, subst, sym, ap, ◌∙◌, inl, inr, arith, Option, Some, None, append_assoc, length-append, length-drop}
-use Rattle.std.specs.Prelude.{nat_lt, IfSome, slice_range}
+use Rattle.std.proofs.Common.{◌≡◌, ℕ, ◌+◌, ◌≤◌, Bool, true, false, cond, List, [], ◌∷◌, ◌++◌, length, drop, ◌==◌, refl, subst, sym, ap, ◌∙◌, inl, inr, arith, Option, Some, None, append_assoc, length-append}
+use Rattle.std.specs.Prelude.{nat_lt, IfSome}
 use Rattle.std.specs.List.{AllByRecursion}
 use Rattle.std.specs.Str.Parse.{digits_value}
 use Rattle.std.proofs.lemmas.Bool.{eq-eqb, eqb-true, lt-ltb, ltb-true}
@@ -9,15 +9,14 @@ use Rattle.std.proofs.lemmas.Option.{cond_some, same_Some, none-some}
 use Rattle.sip_words.specs.declared.bytes.Class.TheVariants as class
 use Rattle.sip_words.specs.declared.marks.Mark.{Mark}
 use Rattle.sip_words.specs.declared.marks.Setting.{Setting}
-use Rattle.sip_words.specs.declared.marks.Setting.TheVariants.{Field, Uri}
-use Rattle.sip_words.specs.declared.params.Param.{Param}
+use Rattle.sip_words.specs.declared.marks.Setting.TheVariants.{Field}
 use Rattle.sip_words.specs.Bytes.{has}
-use Rattle.sip_words.specs.Words.{◌>>=◌, blank_len, lws_end}
+use Rattle.sip_words.specs.Words.{blank_len, lws_end}
 use Rattle.sip_words.specs.Marks.{mark_at}
 use Rattle.sip_words.specs.Numbers.{number_at}
-use Rattle.sip_words.specs.Grammar.{Blank, Space, Tab, FoldSpace, FoldTab, lws, NoBlank, MarkTree, mark, IsSpacing, IsMark, mark_place, IsWord, ParamTree, assigned, param, IsParam, params}
+use Rattle.sip_words.specs.Grammar.{Blank, Space, Tab, FoldSpace, FoldTab, lws, mark, IsSpacing, ParamTree, assigned, IsParam, params}
 use Rattle.sip_words.proofs.Steps.{bind_some}
-use Rattle.sip_words.proofs.Pieces.{behind, within, Ends, Lacks, lws_again, mark_again, no_mark, solid, digits_solid, number_again}
+use Rattle.sip_words.proofs.Pieces.{behind, Ends, Lacks, mark_again, no_mark, solid, digits_solid, number_again}
 use Rattle.sip_words.proofs.Again.{Stops, stops_digit, stops_name, stops_lws, three, four}
 use Rattle.sip_words.proofs.Takes.{Takes, then, no_blank, none_blank, lws_takes, mark_takes, number_takes}
 use Rattle.sip_fields.proofs.Runs.{nothing_solid, lws_last}

@@ -1,29 +1,24 @@
 -- What the grammar of URIs spells is read again, each part at its place.
-use Rattle.std.proofs.Common.{◌≡◌, ◌≢◌, ℕ, zero, suc, ◌+◌, ◌-◌, ◌<◌, ◌≤◌, Bool, true, false, not, cond, List, [], ◌∷◌, ◌++◌, length, drop, ◌==◌, refl, subst, sym, ap, ◌∙◌, inl, inr, arith, Option, Some, None, append_assoc, length-append, length-drop}
-use Rattle.std.specs.Prelude.{slice_range, codes, is_some, IfSome, IfNone}
-use Rattle.std.specs.List.{find, AllByRecursion}
+use Rattle.std.proofs.Common.{◌≡◌, ◌≢◌, ℕ, ◌+◌, ◌<◌, ◌≤◌, Bool, true, false, List, [], ◌∷◌, ◌++◌, length, drop, ◌==◌, refl, sym, ap, ◌∙◌, inl, inr, arith, Option, Some, None, append_assoc, length-append, length-drop}
+use Rattle.std.specs.Prelude.{codes, is_some, IfSome, IfNone}
 use Rattle.std.specs.Str.{str_eq_ignore_ascii_case}
 use Rattle.std.proofs.lemmas.Bool.{cases_Bool, eq-eqb, ne_eqb}
 use Rattle.std.proofs.lemmas.List.{append-nil}
-use Rattle.sip_words.specs.declared.Span.{Span}
 use Rattle.sip_words.specs.declared.bytes.Class as class_type
 use Rattle.sip_words.specs.declared.bytes.Class.TheVariants as class
 use Rattle.sip_words.specs.declared.marks.Setting.TheVariants.{Uri}
-use Rattle.sip_words.specs.declared.params.Param.{Param}
 use Rattle.sip_words.specs.Bytes.{◌or◌, has}
 use Rattle.sip_words.specs.Spans.{span}
-use Rattle.sip_words.specs.Words.{◌>>=◌, run_end, word_end, blank_len, stands}
-use Rattle.sip_words.specs.Params.{params_at, named, known}
-use Rattle.sip_words.specs.Grammar.{IsWord, ParamTree, param, IsParam, params, param_places, named_tree, named_place}
-use Rattle.sip_words.proofs.Pieces.{behind, within, part_is, Ends, Lacks, run_again, word_again, stands_at, stands_no, other_byte, solid}
+use Rattle.sip_words.specs.Words.{stands}
+use Rattle.sip_words.specs.Grammar.{ParamTree, param, params, named_tree, named_place}
+use Rattle.sip_words.proofs.Pieces.{behind, within, part_is, Ends, run_again, word_again, stands_at, stands_no, other_byte, solid}
 use Rattle.sip_words.proofs.Again.{Stops, stops_params, params_again, named_is}
 use Rattle.sip_fields.specs.declared.host.Host.TheVariants.{Name}
 use Rattle.sip_fields.specs.declared.uri.Scheme as scheme_type
 use Rattle.sip_fields.specs.declared.uri.Scheme.TheVariants.{Sip, Sips, Other}
-use Rattle.sip_fields.specs.Host.{host_at, port_at}
-use Rattle.sip_fields.specs.Uri.{scheme_end, scheme_of, password_end, user_at, login_at, sip_at, other_at, uri_behind, uri_at}
-use Rattle.sip_fields.specs.Parts.{HostTree, host, IsHost, host_value, PortTree, port, IsPort, port_value}
-use Rattle.sip_fields.specs.UriGrammar.{AreAll, LoginTree, password, login, IsLogin, headers, SipTree, behind_login, IsSip, UriTree, SipUri, OtherUri, uri, IsOther, IsUri, user_place, uri_place, absolute}
+use Rattle.sip_fields.specs.Uri.{scheme_of, password_end, user_at, login_at, sip_at, other_at, uri_behind, uri_at}
+use Rattle.sip_fields.specs.Parts.{host, host_value, port, port_value}
+use Rattle.sip_fields.specs.UriGrammar.{AreAll, LoginTree, password, login, IsLogin, headers, SipTree, behind_login, IsSip, UriTree, SipUri, OtherUri, uri, IsUri, user_place, uri_place}
 use Rattle.sip_fields.proofs.Runs.{nothing_solid, at_length}
 use Rattle.sip_fields.proofs.Hosts.{host_again}
 use Rattle.sip_fields.proofs.Ports.{Without, no_mark_here, params_without, port_ends, port_again}

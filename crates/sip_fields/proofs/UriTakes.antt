@@ -1,31 +1,29 @@
 -- What is read as a URI is spelled by the grammar.
-use Rattle.std.proofs.Common.{◌≡◌, ◌≢◌, ℕ, zero, suc, ◌+◌, ◌-◌, ◌<◌, ◌≤◌, Bool, true, false, not, cond, List, [], ◌∷◌, ◌++◌, length, drop, ◌==◌, refl, subst, sym, ap, ◌∙◌, inl, inr, arith, Option, Some, None, append_assoc, length-append, length-drop}
-use Rattle.std.specs.Prelude.{slice_range, codes, is_some, IfSome, IfNone}
-use Rattle.std.specs.List.{find, AllByRecursion}
-use Rattle.std.proofs.lemmas.Bool.{cases_Bool, eqb-true, ne_eqb, eqb-false, both_ways}
+use Rattle.std.proofs.Common.{◌≡◌, ◌≢◌, ℕ, ◌+◌, ◌<◌, ◌≤◌, true, false, List, [], ◌∷◌, ◌++◌, length, drop, ◌==◌, refl, subst, sym, ap, ◌∙◌, inl, inr, arith, Option, Some, None, length-drop}
+use Rattle.std.specs.Prelude.{IfSome, IfNone}
+use Rattle.std.proofs.lemmas.Bool.{cases_Bool, eqb-true, eqb-false, both_ways}
 use Rattle.std.proofs.lemmas.List.{append-nil, drop_all}
-use Rattle.std.proofs.lemmas.Option.{cond_some, same_Some, none-some}
+use Rattle.std.proofs.lemmas.Option.{cond_some, same_Some}
 use Rattle.sip_words.specs.declared.Span.{Span}
 use Rattle.sip_words.specs.declared.bytes.Class.TheVariants as class
 use Rattle.sip_words.specs.declared.marks.Setting.TheVariants.{Uri}
 use Rattle.sip_words.specs.Bytes.{◌or◌, has}
-use Rattle.sip_words.specs.Spans.{span}
-use Rattle.sip_words.specs.Words.{◌>>=◌, run_end, word_end, stands}
-use Rattle.sip_words.specs.Params.{params_at, known}
+use Rattle.sip_words.specs.Words.{run_end, word_end, stands}
+use Rattle.sip_words.specs.Params.{params_at}
 use Rattle.sip_words.specs.Grammar.{params}
 use Rattle.sip_words.proofs.Steps.{bind_some}
-use Rattle.sip_words.proofs.Pieces.{behind, Ends, stands_at}
-use Rattle.sip_words.proofs.Takes.{Takes, then, run_takes, word_takes, stands_takes, part_taken, not_none, TakenParams, params_takes}
+use Rattle.sip_words.proofs.Pieces.{Ends, stands_at}
+use Rattle.sip_words.proofs.Takes.{Takes, then, run_takes, word_takes, stands_takes, part_taken, not_none, params_takes}
 use Rattle.sip_fields.specs.declared.uri.Uri as uri_type
 use Rattle.sip_fields.specs.declared.uri.Scheme as scheme_type
 use Rattle.sip_fields.specs.declared.uri.Scheme.TheVariants.{Sip, Sips, Other}
 use Rattle.sip_fields.specs.Host.{host_at, port_at}
 use Rattle.sip_fields.specs.Uri.{scheme_end, scheme_of, password_end, user_at, login_at, sip_at, other_at, uri_behind, uri_at}
-use Rattle.sip_fields.specs.Parts.{HostTree, host, IsHost, PortTree, port, IsPort}
-use Rattle.sip_fields.specs.UriGrammar.{AreAll, IsScheme, AbsoluteTree, absolute, IsAbsolute, LoginTree, password, login, IsLogin, headers, SipTree, behind_login, IsSip, UriTree, SipUri, OtherUri, uri, IsOther, IsUri}
+use Rattle.sip_fields.specs.Parts.{host, port}
+use Rattle.sip_fields.specs.UriGrammar.{AreAll, IsScheme, AbsoluteTree, LoginTree, password, login, IsLogin, headers, SipTree, behind_login, IsSip, UriTree, SipUri, OtherUri, uri, IsUri}
 use Rattle.sip_fields.proofs.Runs.{run_ends}
 use Rattle.sip_fields.proofs.Hosts.{host_takes}
-use Rattle.sip_fields.proofs.Ports.{port_takes, cond_inner}
+use Rattle.sip_fields.proofs.Ports.{port_takes}
 use Rattle.sip_fields.proofs.Schemes.{TakenScheme, scheme_takes}
 
 same_place : (text : List ℕ) (i : ℕ) → Takes text i i []

@@ -1,26 +1,16 @@
 -- What the grammar of Via spells is read again, each part at its place.
-use Rattle.std.proofs.Common.{◌≡◌, ◌≢◌, ℕ, zero, suc, ◌+◌, ◌-◌, ◌<◌, ◌≤◌, Bool, true, false, cond, List, [], ◌∷◌, ◌++◌, length, take, drop, ◌==◌, refl, subst, sym, ap, ◌∙◌, inl, inr, arith, Option, Some, None, append_assoc, length-append}
-use Rattle.std.specs.Prelude.{slice_range, codes, ◌⊎◌, nat_lt, IfSome}
-use Rattle.std.specs.List.{find, list_all, AllByRecursion}
+use Rattle.std.proofs.Common.{◌≡◌, ℕ, ◌+◌, ◌≤◌, true, false, List, [], ◌∷◌, ◌++◌, length, drop, ◌==◌, refl, subst, sym, ap, ◌∙◌, inl, inr, arith, Option, Some, None, append_assoc, length-append}
+use Rattle.std.specs.Prelude.{codes, ◌⊎◌, IfSome}
 use Rattle.std.specs.Str.{str_eq_ignore_ascii_case}
 use Rattle.std.proofs.lemmas.Bool.{ne_eqb, cases_eq, both_ways, cases_Bool}
-use Rattle.sip_words.specs.declared.Span.{Span}
 use Rattle.sip_words.specs.declared.bytes.Class.TheVariants as class
-use Rattle.sip_words.specs.declared.marks.Mark.{Mark}
 use Rattle.sip_words.specs.declared.marks.Setting.TheVariants.{Field}
-use Rattle.sip_words.specs.declared.params.Param.{Param}
-use Rattle.sip_words.specs.Bytes.{has}
-use Rattle.sip_words.specs.Words.{◌>>=◌, word_at, word_end, blank_len, lws_end, gap_end}
-use Rattle.sip_words.specs.Marks.{mark_at}
-use Rattle.sip_words.specs.Params.{params_at, named, known}
-use Rattle.sip_words.specs.Grammar.{Blank, Space, Tab, FoldSpace, FoldTab, lws, MarkTree, mark, IsMark, IsWord, ValueTree, value, ParamTree, assigned, param, IsParam, value_place, param_place, params, param_places, named_tree, named_place}
-use Rattle.sip_words.proofs.Pieces.{behind, within, part_is, Ends, word_again, lws_again, gap_again, mark_again, solid, token_solid, name_solid, word_at_again}
-use Rattle.sip_words.proofs.Again.{Stops, stops_token, stops_params, params_again, named_is, three}
-use Rattle.sip_fields.specs.declared.via.Via.{Via}
-use Rattle.sip_fields.specs.Host.{host_at, port_at}
-use Rattle.sip_fields.specs.Tail.{next_at}
+use Rattle.sip_words.specs.Words.{blank_len}
+use Rattle.sip_words.specs.Grammar.{lws, MarkTree, mark, IsMark, ValueTree, value, ParamTree, assigned, param, value_place, params, named_tree, named_place}
+use Rattle.sip_words.proofs.Pieces.{behind, within, part_is, word_again, lws_again, gap_again, mark_again, solid, token_solid, name_solid, word_at_again}
+use Rattle.sip_words.proofs.Again.{stops_token, stops_params, params_again, named_is}
 use Rattle.sip_fields.specs.Via.{protocol_at, token_value, branch_of, via_at}
-use Rattle.sip_fields.specs.Parts.{host, IsHost, host_value, port, IsPort, port_value, tail, IsTail, next_place, value_of_param}
+use Rattle.sip_fields.specs.Parts.{host, port, tail, value_of_param}
 use Rattle.sip_fields.specs.ViaGrammar.{ViaTree, protocol, via, HasToken, IsVia, via_place}
 use Rattle.sip_fields.proofs.Runs.{stops_gap}
 use Rattle.sip_fields.proofs.Hosts.{host_word, host_again}

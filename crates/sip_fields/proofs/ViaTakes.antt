@@ -1,7 +1,7 @@
 -- What is read as Via is spelled by the grammar.
-use Rattle.std.proofs.Common.{◌≡◌, ◌≢◌, ℕ, ◌+◌, ◌<◌, ◌≤◌, Bool, true, false, cond, List, [], ◌∷◌, ◌++◌, length, drop, ◌==◌, refl, subst, sym, ap, ◌∙◌, inl, inr, arith, Option, Some, None, append_assoc}
+use Rattle.std.proofs.Common.{◌≡◌, ℕ, ◌+◌, List, [], ◌∷◌, ◌++◌, length, drop, subst, ap, ◌∙◌, inl, inr, Option, Some, None, append_assoc}
 use Rattle.std.specs.Prelude.{slice_range, codes, IfSome}
-use Rattle.std.specs.List.{list_all, AllByRecursion}
+use Rattle.std.specs.List.{list_all}
 use Rattle.std.specs.Str.{str_eq_ignore_ascii_case}
 use Rattle.std.proofs.lemmas.Bool.{cases_Bool}
 use Rattle.std.proofs.lemmas.Option.{cond_some, none-some}
@@ -10,14 +10,14 @@ use Rattle.sip_words.specs.declared.bytes.Class.TheVariants as class
 use Rattle.sip_words.specs.declared.marks.Setting.TheVariants.{Field}
 use Rattle.sip_words.specs.declared.params.Param.{Param}
 use Rattle.sip_words.specs.Bytes.{has}
-use Rattle.sip_words.specs.Words.{◌>>=◌, word_at, word_end, lws_end, gap_end}
+use Rattle.sip_words.specs.Words.{word_at, word_end, lws_end}
 use Rattle.sip_words.specs.Marks.{mark_at}
-use Rattle.sip_words.specs.Params.{params_at, named, known}
-use Rattle.sip_words.specs.Grammar.{lws, mark, ValueTree, value, ParamTree, assigned, param, value_place, params, named_tree, named_place}
+use Rattle.sip_words.specs.Params.{params_at, named}
+use Rattle.sip_words.specs.Grammar.{lws, ValueTree, value, ParamTree, assigned, param, value_place, params, named_tree, named_place}
 use Rattle.sip_words.proofs.Steps.{bind_some}
 use Rattle.sip_words.proofs.Pieces.{behind, part_is}
 use Rattle.sip_words.proofs.Again.{named_is}
-use Rattle.sip_words.proofs.Takes.{Takes, then, lws_takes, mark_takes, word_takes, word_at_takes, gap_takes, TakenParams, params_takes}
+use Rattle.sip_words.proofs.Takes.{Takes, then, lws_takes, mark_takes, word_takes, word_at_takes, gap_takes, params_takes}
 use Rattle.sip_fields.specs.declared.via.Via.{Via}
 use Rattle.sip_fields.specs.Host.{host_at, port_at}
 use Rattle.sip_fields.specs.Tail.{next_at}

@@ -3,11 +3,10 @@ ghost use Rattle.sip_fields.specs.Tail.{or_bad};
 ghost use Rattle.sip_fields.specs.CSeq.{cseq_at, IsCSeqBetween};
 ghost use Rattle.sip_fields.specs.CSeqGrammar.{IsCSeqAt};
 
+use crate::tail::Bad;
 use sip_words::numbers::number_at;
 use sip_words::words::{gap_end, lws_end, word_end};
 use sip_words::{Class, Span};
-
-use crate::tail::Bad;
 
 /// The value of CSeq: a number below 2^31, and the method.
 #[derive(Clone, Copy, Debug, PartialEq, Eq)]

@@ -4,12 +4,11 @@ ghost use Rattle.sip_fields.specs.Tail.{or_bad};
 ghost use Rattle.sip_fields.specs.NameAddr.{names_end, display_end, open_at, closed_uri, bare_uri, any_uri, route_uri, tag_of, rest_at, name_addr_at, route_at, IsNameAddrBetween};
 ghost use Rattle.sip_fields.specs.NameAddrGrammar.{IsNameAddrAt, IsRouteAt};
 
+use crate::tail::{Bad, next_at};
+use crate::uri::{is_absolute, uri_at};
 use sip_words::params::params_at;
 use sip_words::words::{lws_end, quoted_end, run_end, stands, word_end};
 use sip_words::{Class, Setting, Span};
-
-use crate::tail::{Bad, next_at};
-use crate::uri::{is_absolute, uri_at};
 
 /// A value of From, To or Route: a URI, and what stands round it.
 #[derive(Clone, Copy, Debug, PartialEq, Eq)]

@@ -5,13 +5,12 @@ ghost use Rattle.sip_fields.specs.Uri.{scheme_end, is_absolute, scheme_of, other
 ghost use Rattle.sip_fields.specs.declared.uri.Scheme.TheVariants.{Other};
 ghost use Rattle.sip_fields.specs.UriGrammar.{IsUriAt};
 
+use crate::host::{Host, host_at, port_at};
+use crate::tail::Bad;
 use sip_words::marks::mark_at;
 use sip_words::params::params_at;
 use sip_words::words::{run_end, same_word, stands, word_end};
 use sip_words::{Class, Setting, Span};
-
-use crate::host::{Host, host_at, port_at};
-use crate::tail::Bad;
 
 /// The scheme of a URI, whose case is ignored.
 #[derive(Clone, Copy, Debug, PartialEq, Eq)]

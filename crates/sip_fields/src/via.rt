@@ -4,13 +4,12 @@ ghost use Rattle.sip_fields.specs.Tail.{or_bad};
 ghost use Rattle.sip_fields.specs.Via.{protocol_at, branch_of, rport_of, received_of, via_at, IsRportBetween, IsViaBetween};
 ghost use Rattle.sip_fields.specs.ViaGrammar.{IsViaAt};
 
+use crate::host::{Host, host_at, port_at};
+use crate::tail::{Bad, next_at};
 use sip_words::marks::mark_at;
 use sip_words::params::params_at;
 use sip_words::words::{gap_end, is_all, lws_end, word_at, word_end};
 use sip_words::{Class, Param, Setting, Span};
-
-use crate::host::{Host, host_at, port_at};
-use crate::tail::{Bad, next_at};
 
 /// The parameter `rport` of a Via value (RFC 3581).
 #[derive(Clone, Copy, Debug, PartialEq, Eq)]
