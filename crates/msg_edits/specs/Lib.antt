@@ -1,0 +1,4 @@
+pub mod Edited
+pub mod Change
+pub mod Causes
+pub mod Writing
