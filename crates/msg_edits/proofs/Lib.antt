@@ -1,2 +1,5 @@
 mod Steps
 mod Pieces
+mod Grown
+mod Lengths
+mod Once

@@ -36,10 +36,15 @@ impl Model for Edits {
     ghost Value = { List Edit };
 
     ghost view = { λ e. e.list.items };
+
+    ghost use Rattle.msg_edits.specs.Laws.{IsCutOnce};
+
+    ghost invariant = { λ e. IsCutOnce e.list.items };
 }
 
 impl Edits {
     ghost use Rattle.msg_edits.specs.Causes.{CanCut, RefusesCut, RefusesInsert};
+    ghost use Rattle.msg_edits.specs.Laws.{IsCutOnce};
 
     /// No edits.
     pub fn new() -> Edits
@@ -108,10 +113,11 @@ impl Edits {
         self.list.truncate(len);
     }
 
-    /// The edits, in the order of making.
+    /// The edits, in the order of making. No byte is cut twice.
     pub fn as_slice(&self) -> &[Edit]
         ensures value { result.now ≡ self.now }
         ensures limit { length result.now ≤ 64 }
+        ensures once { IsCutOnce self.now }
     {
         self.list.as_slice()
     }
