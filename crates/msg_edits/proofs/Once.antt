@@ -18,9 +18,10 @@ cuts i e = cond (cuts_byte i e) 1 0
 none_counted : (edits : List Edit) (i : ℕ) → is_cut edits i ≡ false → count_by (cuts_byte i) edits ≡ 0
 none_counted [] i h = refl
 none_counted (e ∷ edits) i h =
+    let sum = sum_by-cons (cuts i) e edits in
     elim (cases_Bool (cuts_byte i e)) [
-      | inl yes ↦ absurd (grind arith)
-      | inr no ↦ let rest = none_counted edits i (rw no at h) in sum_by-cons (cuts i) e edits ∙ rw no rest
+      | inl hit ↦ absurd (grind arith)
+      | inr miss ↦ let zero : cuts i e ≡ 0 = rw miss refl in let rest = none_counted edits i (rw miss at h) in omega arith
     ]
 
 some_counted : (edits : List Edit) (i : ℕ) → is_cut edits i ≡ true → 1 ≤ count_by (cuts_byte i) edits
@@ -28,19 +29,19 @@ some_counted [] i h = absurd (cc)
 some_counted (e ∷ edits) i h =
     let sum = sum_by-cons (cuts i) e edits in
     elim (cases_Bool (cuts_byte i e)) [
-      | inl yes ↦ let s : sum_by (cuts i) (e ∷ edits) ≡ 1 + sum_by (cuts i) edits = rw yes at sum in omega arith
-      | inr no ↦ let s : sum_by (cuts i) (e ∷ edits) ≡ 0 + sum_by (cuts i) edits = rw no at sum in let rest = some_counted edits i (rw no at h) in omega arith
+      | inl hit ↦ let one : cuts i e ≡ 1 = rw hit refl in omega arith
+      | inr miss ↦ let rest = some_counted edits i (rw miss at h) in omega arith
     ]
 
 pub once_cut : (edits : List Edit) (at : Span) → IsCutOnce edits → (MeetsCut edits at → ⊥) → IsCutOnce (edits ++ Cut at ∷ [])
 once_cut edits at once apart = λ i.
     let sum = sum_by_push (cuts i) edits (Cut at) in
     elim (cases_Bool (has_byte at i)) [
-      | inl yes ↦ elim (cases_Bool (is_cut edits i)) [
-          | inl cut ↦ absurd (apart (i, yes, cut))
-          | inr kept ↦ let none = none_counted edits i kept in let s : sum_by (cuts i) (edits ++ Cut at ∷ []) ≡ sum_by (cuts i) edits + 1 = rw yes at sum in omega arith
+      | inl hit ↦ elim (cases_Bool (is_cut edits i)) [
+          | inl cut ↦ absurd (apart (i, hit, cut))
+          | inr kept ↦ let none = none_counted edits i kept in let s : sum_by (cuts i) (edits ++ Cut at ∷ []) ≡ sum_by (cuts i) edits + 1 = rw hit at sum in omega arith
         ]
-      | inr no ↦ let s : sum_by (cuts i) (edits ++ Cut at ∷ []) ≡ sum_by (cuts i) edits + 0 = rw no at sum in let before = once i in omega arith
+      | inr miss ↦ let s : sum_by (cuts i) (edits ++ Cut at ∷ []) ≡ sum_by (cuts i) edits + 0 = rw miss at sum in let before = once i in omega arith
     ]
 
 pub once_insert : (edits : List Edit) (place : ℕ) (new : List ℕ) → IsCutOnce edits → IsCutOnce (edits ++ Insert place new ∷ [])
@@ -51,9 +52,9 @@ once_take edits n once = λ i. let le = sum_by-take-le (cuts i) edits n in let b
 
 -- the last cut of a list in which no byte is cut twice meets no earlier one
 pub last_apart : (edits : List Edit) (at : Span) → IsCutOnce (edits ++ Cut at ∷ []) → MeetsCut edits at → ⊥
-last_apart edits at once (i, yes, cut) =
+last_apart edits at once (i, hit, cut) =
     let sum = sum_by_push (cuts i) edits (Cut at) in
-    let s : sum_by (cuts i) (edits ++ Cut at ∷ []) ≡ sum_by (cuts i) edits + 1 = rw yes at sum in
+    let s : sum_by (cuts i) (edits ++ Cut at ∷ []) ≡ sum_by (cuts i) edits + 1 = rw hit at sum in
     let some = some_counted edits i cut in
     let all = once i in
     omega arith
