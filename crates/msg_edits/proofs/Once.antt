@@ -38,9 +38,9 @@ once_cut edits at once apart = λ i.
     let sum = sum_by_push (cuts i) edits (Cut at) in
     elim (cases_Bool (has_byte at i)) [
       | inl hit ↦ elim (cases_Bool (is_cut edits i)) [
-          | inl cut ↦ absurd (apart (i, hit, cut))
-          | inr kept ↦ let none = none_counted edits i kept in let s : sum_by (cuts i) (edits ++ Cut at ∷ []) ≡ sum_by (cuts i) edits + 1 = rw hit at sum in omega arith
-        ]
+        | inl cut ↦ absurd (apart (i, hit, cut))
+        | inr kept ↦ let none = none_counted edits i kept in let s : sum_by (cuts i) (edits ++ Cut at ∷ []) ≡ sum_by (cuts i) edits + 1 = rw hit at sum in omega arith
+      ]
       | inr miss ↦ let s : sum_by (cuts i) (edits ++ Cut at ∷ []) ≡ sum_by (cuts i) edits + 0 = rw miss at sum in let before = once i in omega arith
     ]
 

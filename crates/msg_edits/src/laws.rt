@@ -11,39 +11,34 @@ ghost use Rattle.msg_edits.specs.Laws.{LiesWithin, IsCutOnce, cut_length, insert
 /// No edits leave the text as it is.
 pub fn no_edits_leave_the_text()
     ensures { (text : List ℕ) → edited text [] ≡ text }
-{
-}
+{}
 
 /// One insert more puts its text behind what the text before its place became, inserts at the place included.
 pub fn an_insert_stands_at_its_place()
     ensures { (text : List ℕ) (edits : List Edit) (place : ℕ) (new : List ℕ) → place ≤ length text
         → let old = edited text edits in
-          let n = length (edited (take place text) edits) in
-          edited text (edits ++ Insert place new ∷ []) ≡ take n old ++ new ++ drop n old }
-{
-}
+        let n = length (edited (take place text) edits) in
+        edited text (edits ++ Insert place new ∷ []) ≡ take n old ++ new ++ drop n old }
+{}
 
 /// One cut more takes the bytes of its span away, and leaves what is inserted before them, and all else.
 pub fn a_cut_takes_its_bytes_away()
     ensures { (text : List ℕ) (edits : List Edit) (at : Span) → LiesWithin text (Cut at)
         → let front = edited_from edits 0 (take at.from text) in
-          let bytes = slice_range text at.from at.to in
-          let back = edited_from edits at.to (drop at.to text) ++ inserted_at edits (length text) in
-          (edited text edits ≡ front ++ edited_from edits at.from bytes ++ back)
-          × (edited text (edits ++ Cut at ∷ []) ≡ front ++ left_by_cut edits at.from bytes ++ back) }
-{
-}
+        let bytes = slice_range text at.from at.to in
+        let back = edited_from edits at.to (drop at.to text) ++ inserted_at edits (length text) in
+        (edited text edits ≡ front ++ edited_from edits at.from bytes ++ back)
+        × (edited text (edits ++ Cut at ∷ []) ≡ front ++ left_by_cut edits at.from bytes ++ back) }
+{}
 
 /// A span that is cut, with a text put in its place.
 pub fn a_span_is_replaced()
     ensures { (text : List ℕ) (at : Span) (new : List ℕ) → LiesWithin text (Cut at)
         → edited text (Cut at ∷ Insert at.from new ∷ []) ≡ take at.from text ++ new ++ drop at.to text }
-{
-}
+{}
 
 /// The length of the edited text, where every edit lies within the text and no byte is cut twice.
 pub fn the_lengths_add_up()
     ensures { (text : List ℕ) (edits : List Edit) → All (LiesWithin text) edits → IsCutOnce edits
         → length (edited text edits) + sum_by cut_length edits ≡ length text + sum_by insert_length edits }
-{
-}
+{}

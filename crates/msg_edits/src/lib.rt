@@ -13,6 +13,8 @@
 pub mod laws;
 mod list;
 mod parts;
+#[cfg(test)]
+mod tests;
 mod writing;
 
 pub use list::{EditFault, Edits, LIMIT};

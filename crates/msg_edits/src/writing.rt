@@ -29,7 +29,12 @@ pub fn apply(b: &[u8], edits: &Edits, out: &mut [u8]) -> Result<usize, TooLong>
 }
 
 /// The same with the changes `first` made before the edits.
-pub fn apply_after(b: &[u8], first: &[Change<'_>], edits: &Edits, out: &mut [u8]) -> Result<usize, TooLong>
+pub fn apply_after(
+    b: &[u8],
+    first: &[Change<'_>],
+    edits: &Edits,
+    out: &mut [u8],
+) -> Result<usize, TooLong>
     ensures len { IfOk result (λ n. n ≡ length (edited b.now (map edit_of first.now ++ edits.now))) }
     ensures fits { OnOk result (length (edited b.now (map edit_of first.now ++ edits.now)) ≤ length out.old) }
     ensures written { IfOk result (λ n. out.new ≡ edited b.now (map edit_of first.now ++ edits.now) ++ drop n out.old) }
@@ -90,7 +95,7 @@ impl<'a> Changes<'a> {
             }
             at = stop;
         }
-        self.put_inserts(at, out, len)
+        self.put_inserts(b.len(), out, len)
     }
 
     /// Writes the texts that are inserted at `at`.

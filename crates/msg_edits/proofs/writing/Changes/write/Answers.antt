@@ -36,7 +36,6 @@ unfolding edited
 returns c =
     let edits = edits_of c.args.self.now in
     let b = c.args.b.now in
-    let end : c.loop-at.at ≡ length b = omega arith in
     let all : take c.loop-at.at b ≡ b = take_all c.loop-at.at b (omega arith) in
     let written = c.put_inserts.ensures c.args.out.now (edited_from edits 0 (take c.loop-at.at b)) c.loop-at.invariant.1 in
-    rw (all, end) at written
+    rw all at written
