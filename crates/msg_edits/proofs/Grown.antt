@@ -1,14 +1,13 @@
 -- The text after one edit more.
-use Rattle.std.proofs.Common.{◌≡◌, ◌≢◌, ℕ, zero, suc, ◌+◌, ◌-◌, ◌<◌, ◌≤◌, ◌==◌, Bool, true, false, List, [], ◌∷◌, ◌++◌, length, take, drop, refl, sym, ap, ◌∙◌, inl, inr, arith, append_assoc, length-take, length-drop, length-append}
-use Rattle.std.specs.Prelude.{if◌then◌else◌, slice_range, nat_le, nat_lt, ◌||◌, ◌&&◌}
-use Rattle.std.specs.List.{flat_map, enumerate_from}
-use Rattle.std.proofs.lemmas.List.{append-nil, take_all, take_at, drop_at, take-append-drop, drop-drop}
-use Rattle.std.proofs.lemmas.Bool.{cases_Bool, ne_eqb, eq-eqb}
+use Rattle.std.proofs.Common.{◌≡◌, ◌≢◌, ℕ, ◌+◌, ◌-◌, ◌<◌, ◌≤◌, true, false, List, [], ◌∷◌, ◌++◌, length, take, drop, refl, sym, ap, ◌∙◌, arith, append_assoc, length-take, length-drop}
+use Rattle.std.specs.Prelude.{if◌then◌else◌, slice_range}
+use Rattle.std.proofs.lemmas.List.{append-nil, take_at, drop_at, take-append-drop, drop-drop}
+use Rattle.std.proofs.lemmas.Bool.{ne_eqb, eq-eqb}
 use Rattle.std.proofs.lemmas.Grind.{common_steps}
 use Rattle.sip_words.specs.declared.Span.{Span}
 use Rattle.msg_edits.specs.declared.parts.Edit.{Edit}
 use Rattle.msg_edits.specs.declared.parts.Edit.TheVariants.{Cut, Insert}
-use Rattle.msg_edits.specs.Edited.{has_byte, cuts_byte, text_at, is_cut, inserted_at, edited_byte, edited_from, edited}
+use Rattle.msg_edits.specs.Edited.{has_byte, is_cut, inserted_at, edited_byte, edited_from, edited}
 use Rattle.msg_edits.specs.Laws.{LiesWithin, left_by_cut}
 use Rattle.msg_edits.proofs.Steps.{inserted_push, cut_push}
 use Rattle.msg_edits.proofs.Pieces.{from_append}

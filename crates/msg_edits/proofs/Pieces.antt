@@ -1,11 +1,10 @@
 -- A piece of a text within which no edit begins or ends.
-use Rattle.std.proofs.Common.{◌≡◌, ℕ, zero, suc, ◌+◌, ◌-◌, ◌<◌, ◌≤◌, Bool, true, false, List, [], ◌∷◌, ◌++◌, length, take, drop, refl, sym, ap, ◌∙◌, arith, append_assoc, length-take, length-drop}
+use Rattle.std.proofs.Common.{◌≡◌, ℕ, suc, ◌+◌, ◌-◌, ◌<◌, ◌≤◌, Bool, true, false, List, [], ◌∷◌, ◌++◌, length, take, drop, refl, sym, ap, ◌∙◌, arith, append_assoc, length-take, length-drop}
 use Rattle.std.specs.Prelude.{if◌then◌else◌}
-use Rattle.std.specs.List.{flat_map, enumerate_from}
-use Rattle.std.proofs.lemmas.List.{append-nil, take_all, drop_more, take-append-drop}
+use Rattle.std.proofs.lemmas.List.{append-nil}
 use Rattle.std.proofs.Math.Seq.{take-add}
 use Rattle.msg_edits.specs.declared.parts.Edit.{Edit}
-use Rattle.msg_edits.specs.Edited.{is_cut, inserted_at, edited_byte, edited_from, edited}
+use Rattle.msg_edits.specs.Edited.{is_cut, inserted_at, edited_byte, edited_from}
 use Rattle.msg_edits.specs.Writing.{IsQuiet}
 
 -- bytes one after the other

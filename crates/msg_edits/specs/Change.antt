@@ -1,5 +1,4 @@
 -- Edits with borrowed texts, as edits.
-use Rattle.std.specs.Prelude.{List, ◌++◌, map}
 use Rattle.msg_edits.specs.declared.parts.Edit.{Edit}
 use Rattle.msg_edits.specs.declared.parts.Edit.TheVariants as edit
 use Rattle.msg_edits.specs.declared.parts.Change.{Change}

@@ -1,5 +1,7 @@
 //! Edited texts worked out by hand, and the limits of a list.
 use crate::{Change, EditFault, Edits, LIMIT, Span, TooLong, apply, apply_after};
+use std::alloc::{AllocGlobal, Global};
+use std::process::Abort;
 
 const TEXT: &[u8] = b"abcdef";
 
@@ -11,66 +13,71 @@ fn insert(place: usize, text: &'static [u8]) -> Change<'static> {
     Change::Insert { place, text }
 }
 
-fn make(edits: &mut Edits, alloc: std::alloc::Global, change: Change<'_>) -> Result<(), EditFault> {
+fn make(edits: &mut Edits, alloc: Global, change: Change<'static>) -> Result<(), EditFault> {
     match change {
         Change::Cut(at) => edits.cut(at),
         Change::Insert { place, text } => edits.insert(alloc, place, text),
     }
 }
 
-/// Each row is what it shows, the edits of "abcdef", and the text after them.
+/// "abcdef" with these edits is `want`, in a room with bytes left over and in one that is just enough.
+fn becomes(rt: &(impl Abort + AllocGlobal), shows: &str, changes: &[Change<'static>], want: &[u8]) {
+    let mut edits = Edits::new();
+    for change in changes {
+        assert!(rt; make(&mut edits, rt.alloc(), *change).is_ok(), "{shows}");
+    }
+    assert_eq!(rt; edits.len(), changes.len(), "{shows}");
+    let len = want.len();
+    let mut room = [7; 16];
+    assert!(rt; len < 16);
+    assert!(rt; apply(TEXT, &edits, &mut room) == Ok(len), "{shows}");
+    assert_eq!(rt; &room[..len], want, "{shows}");
+    assert!(rt; room[len..].iter().all(|b| *b == 7), "{shows}");
+    let mut just_enough = [7; 16];
+    assert!(rt;
+        apply(TEXT, &edits, &mut just_enough[..len]) == Ok(len),
+        "{shows}"
+    );
+    assert!(rt; just_enough == room, "{shows}");
+}
+
 #[test]
 fn edited_texts(rt: HostRuntime) {
-    let rows: [(&str, &[Change<'_>], &[u8]); 10] = [
-        ("no edit", &[], b"abcdef"),
-        ("cuts at both ends", &[cut(0, 1), cut(5, 6)], b"bcde"),
-        ("adjacent cuts", &[cut(2, 4), cut(1, 2)], b"aef"),
-        ("all is cut", &[cut(0, 6)], b""),
-        (
-            "an insert inside a cut stays",
-            &[cut(1, 4), insert(2, b"X")],
-            b"aXef",
-        ),
-        (
-            "inserts at the two ends of a cut",
-            &[insert(3, b">"), cut(1, 3), insert(1, b"<")],
-            b"a<>def",
-        ),
-        (
-            "two inserts of one place, in the order of making",
-            &[insert(3, b"1"), insert(3, b"22")],
-            b"abc122def",
-        ),
-        (
-            "an insert at the text's end",
-            &[insert(6, b"!")],
-            b"abcdef!",
-        ),
-        ("an insert before all", &[insert(0, b"> ")], b"> abcdef"),
-        (
-            "edits from back to front",
-            &[insert(5, b"y"), cut(0, 2)],
-            b"cdeyf",
-        ),
-    ];
-    for (shows, changes, want) in rows {
-        let mut edits = Edits::new();
-        for change in changes {
-            assert!(rt; make(&mut edits, rt.alloc(), *change).is_ok(), "{shows}");
-        }
-        assert_eq!(rt; edits.len(), changes.len(), "{shows}");
-        let len = want.len();
-        let mut room = [7; 16];
-        assert!(rt; apply(TEXT, &edits, &mut room) == Ok(len), "{shows}");
-        assert_eq!(rt; &room[..len], want, "{shows}");
-        assert!(rt; room[len..].iter().all(|b| *b == 7), "{shows}");
-        let mut just_enough = [7; 16];
-        assert!(rt;
-            apply(TEXT, &edits, &mut just_enough[..len]) == Ok(len),
-            "{shows}"
-        );
-        assert!(rt; just_enough == room, "{shows}");
-    }
+    becomes(&rt, "no edit", &[], b"abcdef");
+    becomes(&rt, "cuts at both ends", &[cut(0, 1), cut(5, 6)], b"bcde");
+    becomes(&rt, "adjacent cuts", &[cut(2, 4), cut(1, 2)], b"aef");
+    becomes(&rt, "all is cut", &[cut(0, 6)], b"");
+    becomes(
+        &rt,
+        "an insert inside a cut stays",
+        &[cut(1, 4), insert(2, b"X")],
+        b"aXef",
+    );
+    becomes(
+        &rt,
+        "inserts at both ends of a cut",
+        &[insert(3, b">"), cut(1, 3), insert(1, b"<")],
+        b"a<>def",
+    );
+    becomes(
+        &rt,
+        "two inserts of one place",
+        &[insert(3, b"1"), insert(3, b"22")],
+        b"abc122def",
+    );
+    becomes(&rt, "an insert at the end", &[insert(6, b"!")], b"abcdef!");
+    becomes(
+        &rt,
+        "an insert before all",
+        &[insert(0, b"> ")],
+        b"> abcdef",
+    );
+    becomes(
+        &rt,
+        "from back to front",
+        &[insert(5, b"y"), cut(0, 2)],
+        b"cdeyf",
+    );
 }
 
 /// A room that is one byte too small stays as it was, and the whole length is told.

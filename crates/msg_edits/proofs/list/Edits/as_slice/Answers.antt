@@ -1,5 +1,3 @@
-use Rattle.std.proofs.Common.{sym}
-use Rattle.msg_edits.specs.Laws.{IsCutOnce}
 use Rattle.msg_edits.proofs.list.Edits.as_slice.Goals as goal
 
 pub returns-clause-once : goal.returns-clause-once

@@ -1,7 +1,5 @@
-use Rattle.std.proofs.Common.{◌≡◌, true, false, refl, sym, ◌∙◌}
-use Rattle.std.specs.Prelude.{◌||◌}
+use Rattle.std.proofs.Common.{refl, sym, ◌∙◌}
 use Rattle.msg_edits.specs.Change.{edit_of}
-use Rattle.msg_edits.specs.Edited.{is_cut}
 use Rattle.msg_edits.specs.Writing.{edits_of}
 use Rattle.msg_edits.proofs.Steps.{cut_more, cut_found}
 use Rattle.msg_edits.proofs.writing.Changes.cuts.Goals as goal

@@ -1,5 +1,5 @@
 use Rattle.msg_edits.specs.Change.{edit_of}
-use Rattle.std.proofs.Common.{arith, ◌<◌, ◌≤◌}
+use Rattle.std.proofs.Common.{arith}
 use Rattle.msg_edits.specs.Writing.{edits_of}
 use Rattle.msg_edits.proofs.Steps.{quiet_more}
 use Rattle.msg_edits.proofs.writing.Changes.next_stop.Goals as goal

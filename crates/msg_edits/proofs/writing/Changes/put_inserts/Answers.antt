@@ -1,7 +1,7 @@
-use Rattle.std.proofs.Common.{◌≡◌, List, ℕ, ◌++◌, take, ◌+◌, append_assoc, ap, sym, ◌∙◌}
+use Rattle.std.proofs.Common.{◌++◌, take, append_assoc}
 use Rattle.msg_edits.specs.Change.{edit_of}
-use Rattle.msg_edits.specs.Edited.{inserted_at, text_at}
-use Rattle.msg_edits.specs.Writing.{edits_of, IsWritten}
+use Rattle.msg_edits.specs.Edited.{inserted_at}
+use Rattle.msg_edits.specs.Writing.{edits_of}
 use Rattle.msg_edits.proofs.Steps.{inserted_more}
 use Rattle.msg_edits.proofs.writing.Changes.put_inserts.Goals as goal
 

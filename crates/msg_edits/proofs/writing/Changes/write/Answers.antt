@@ -1,7 +1,7 @@
-use Rattle.std.proofs.Common.{◌≡◌, List, ℕ, ◌++◌, [], take, drop, true, false, length, append_assoc, ap, sym, ◌∙◌, arith, ◌-◌}
+use Rattle.std.proofs.Common.{◌≡◌, ◌++◌, take, drop, true, false, append_assoc, sym, ◌∙◌, arith, ◌-◌}
 use Rattle.std.proofs.lemmas.List.{append-nil, take_all}
 use Rattle.msg_edits.specs.Edited.{inserted_at, edited_from, edited}
-use Rattle.msg_edits.specs.Writing.{edits_of, IsWritten}
+use Rattle.msg_edits.specs.Writing.{edits_of}
 use Rattle.msg_edits.proofs.Pieces.{quiet_piece}
 use Rattle.msg_edits.proofs.writing.Changes.write.Goals as goal
 
