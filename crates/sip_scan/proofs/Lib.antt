@@ -1,0 +1,5 @@
+mod Runs
+mod Turns
+mod Kept
+mod LastPart
+mod Scanned
