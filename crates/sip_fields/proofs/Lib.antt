@@ -1,1 +1,10 @@
 pub mod Names
+pub mod Runs
+pub mod Hosts
+pub mod Ports
+pub mod ViaAgain
+pub mod ViaTakes
+pub mod CSeqLaw
+pub mod Schemes
+pub mod UriAgain
+pub mod Laws

@@ -1,10 +1,10 @@
 -- Hosts and ports, as functions of a text and a place in it (RFC 3261, section 25.1; this profile has no IPv6).
-use Rattle.std.specs.Prelude.{ℕ, List, [], ◌∷◌, ◌==◌, length, Option, Some, None, nat_lt, if◌then◌else◌, slice_range}
+use Rattle.std.specs.Prelude.{ℕ, ◌+◌, List, [], ◌∷◌, ◌==◌, length, Option, Some, None, nat_lt, if◌then◌else◌, slice_range}
 use Rattle.std.specs.Int.{w32, from_be_bytes}
 use Rattle.sip_words.specs.declared.bytes.Class.TheVariants.{Name}
 use Rattle.sip_words.specs.declared.marks.Mark.{Mark}
 use Rattle.sip_words.specs.declared.marks.Setting.{Setting}
-use Rattle.sip_words.specs.Words.{◌>>=◌, word_end, word_at}
+use Rattle.sip_words.specs.Words.{◌>>=◌, word_end, stands}
 use Rattle.sip_words.specs.Marks.{mark_at}
 use Rattle.sip_words.specs.Numbers.{number_at}
 use Rattle.sip_fields.specs.declared.host.Host.{Host}
@@ -15,15 +15,18 @@ octet_at text i = do
   n ← number_at 3 text i
   if nat_lt n.0 256 then Some n else None
 
+unfoldable pub dot_end : List ℕ → ℕ → Option ℕ
+dot_end text i = if stands 46 text i then Some (i + 1) else None
+
 -- four numbers 0 to 255 with dots
 unfoldable pub v4_at : List ℕ → ℕ → Option (ℕ × ℕ)
 v4_at text i = do
   a ← octet_at text i
-  p ← word_at (46 ∷ []) text a.1
+  p ← dot_end text a.1
   b ← octet_at text p
-  q ← word_at (46 ∷ []) text b.1
+  q ← dot_end text b.1
   c ← octet_at text q
-  r ← word_at (46 ∷ []) text c.1
+  r ← dot_end text c.1
   d ← octet_at text r
   Some (from_be_bytes w32 (a.0 ∷ b.0 ∷ c.0 ∷ d.0 ∷ []), d.1)
 

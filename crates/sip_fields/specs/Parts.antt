@@ -7,8 +7,7 @@ use Rattle.sip_words.specs.declared.bytes.Class.TheVariants as class
 use Rattle.sip_words.specs.declared.marks.Setting.{Setting}
 use Rattle.sip_words.specs.declared.marks.Setting.TheVariants.{Field}
 use Rattle.sip_words.specs.declared.params.Param.{Param}
-use Rattle.sip_words.specs.Words.{blank_len}
-use Rattle.sip_words.specs.Grammar.{Blank, lws, MarkTree, mark, IsMark, IsWord}
+use Rattle.sip_words.specs.Grammar.{Blank, lws, NoBlank, MarkTree, mark, IsMark, IsWord}
 use Rattle.sip_fields.specs.declared.host.Host.{Host}
 use Rattle.sip_fields.specs.declared.host.Host.TheVariants.{V4, Name}
 
@@ -78,7 +77,7 @@ tail (More m rest) = mark 44 m ++ rest
 -- the LWS behind the comma is all that stands there
 abbrev pub IsTail : Tail → Type 0
 IsTail (Last bs) = Unit {0}
-IsTail (More m rest) = blank_len rest ≡ 0
+IsTail (More m rest) = NoBlank rest
 
 abbrev pub next_place : ℕ → Tail → Option ℕ
 next_place i (Last bs) = None

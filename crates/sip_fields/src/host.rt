@@ -1,9 +1,9 @@
 ghost use Rattle.std.specs.Prelude.{◌≡◌, ◌≤◌, ◌<◌, length, IfSome};
-ghost use Rattle.sip_fields.specs.Host.{octet_at, v4_at, host_of, host_at, port_at};
+ghost use Rattle.sip_fields.specs.Host.{octet_at, dot_end, v4_at, host_of, host_at, port_at};
 
 use sip_words::marks::mark_at;
 use sip_words::numbers::number_at;
-use sip_words::words::{word_at, word_end};
+use sip_words::words::{stands, word_end};
 use sip_words::{Class, Setting};
 
 /// What a host is: an IPv4 address, or a name, which isn't looked up.
@@ -29,6 +29,16 @@ fn octet_at(text: &[u8], from: usize) -> Option<(u8, usize)>
     }
 }
 
+/// The place behind a dot.
+#[tactic(auto, unfolding(crate::specs::Host::dot_end))]
+fn dot_end(text: &[u8], from: usize) -> Option<usize>
+    requires { from ≤ length text.now }
+    ensures value { result ≡ dot_end text.now from }
+    ensures bounds { IfSome result (λ end. (from < end) × (end ≤ length text.now)) }
+{
+    stands(text, from, b'.').then_some(from + 1)
+}
+
 /// The address that four numbers with dots write, and its end.
 #[tactic(auto, unfolding(crate::specs::Host::v4_at))]
 fn v4_at(text: &[u8], from: usize) -> Option<(u32, usize)>
@@ -36,9 +46,9 @@ fn v4_at(text: &[u8], from: usize) -> Option<(u32, usize)>
     ensures { result ≡ v4_at text.now from }
 {
     let (a, end) = octet_at(text, from)?;
-    let (b, end) = octet_at(text, word_at(text, end, b".")?)?;
-    let (c, end) = octet_at(text, word_at(text, end, b".")?)?;
-    let (d, end) = octet_at(text, word_at(text, end, b".")?)?;
+    let (b, end) = octet_at(text, dot_end(text, end)?)?;
+    let (c, end) = octet_at(text, dot_end(text, end)?)?;
+    let (d, end) = octet_at(text, dot_end(text, end)?)?;
     Some((u32::from_be_bytes([a, b, c, d]), end))
 }
 

@@ -2,6 +2,7 @@ ghost use Rattle.std.specs.Prelude.{◌≡◌, ◌≤◌, ◌<◌, length, take,
 ghost use Rattle.sip_words.specs.Spans.{IsBetween, HasParts};
 ghost use Rattle.sip_fields.specs.Tail.{or_bad};
 ghost use Rattle.sip_fields.specs.Via.{protocol_at, branch_of, rport_of, received_of, via_at, IsRportBetween, IsViaBetween};
+ghost use Rattle.sip_fields.specs.ViaGrammar.{IsViaAt};
 
 use sip_words::marks::mark_at;
 use sip_words::params::params_at;
@@ -128,6 +129,10 @@ fn via_at(text: &[u8], from: usize) -> Option<Via>
 pub fn read_via(b: &[u8], at: Span) -> Result<Via, Bad>
     requires order { at.from ≤ at.to }
     requires within { at.to ≤ length b.now }
+    // What is read is spelled by the grammar, each span being the place of its part.
+    ensures found { IfOk result (IsViaAt (take at.to b.now) at.from) }
+    // What the grammar spells is read, and nothing else can be.
+    ensures only { (v : Via) → IsViaAt (take at.to b.now) at.from v → result ≡ Ok v }
     // The same as a function.
     ensures exact { result ≡ or_bad (via_at (take at.to b.now) at.from) }
     // Each span lies in this part of the bytes.

@@ -1,5 +1,5 @@
 -- The classes of bytes that the grammar names (RFC 3261, section 25.1).
-use Rattle.std.specs.Prelude.{ℕ, Bool, true, false, not, List, [], ◌∷◌, ◌==◌, nat_lt, cond, codes}
+use Rattle.std.specs.Prelude.{ℕ, Bool, true, false, not, List, ◌==◌, nat_lt, cond, codes}
 use Rattle.std.specs.Char.{is_ascii_alphabetic, is_ascii_alphanumeric, is_ascii_digit}
 use Rattle.std.specs.List.{list_any}
 use Rattle.sip_words.specs.declared.bytes.Class.{Class}
