@@ -3,3 +3,5 @@ mod Turns
 mod Kept
 mod LastPart
 mod Scanned
+mod FieldAgain
+mod HeadAgain
