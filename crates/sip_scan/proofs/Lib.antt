@@ -5,3 +5,5 @@ mod LastPart
 mod Scanned
 mod FieldAgain
 mod HeadAgain
+mod FieldTakes
+mod HeadTakes

@@ -10,10 +10,11 @@
 //! Nothing here takes memory.
 #![tactic(auto)]
 
-ghost use Rattle.std.specs.Prelude.{◌≡◌, ◌≤◌, ◌<◌, ◌+◌, ◌∷◌, ◌++◌, [], List, ℕ, length, take, IfSome, IfNone, IfOk, Some, None, All};
+ghost use Rattle.std.specs.Prelude.{◌≡◌, ◌≤◌, ◌<◌, ◌+◌, ◌∷◌, ◌++◌, [], List, ℕ, length, take, IfSome, IfNone, IfOk, Some, None, Ok, Err, All};
 ghost use Rattle.sip_scan.specs.declared.field.HeaderSpan.{HeaderSpan};
 ghost use Rattle.sip_scan.specs.Field.{fields_at, IsField};
-ghost use Rattle.sip_scan.specs.Head.{scanned, LiesIn, LieFrom};
+ghost use Rattle.sip_scan.specs.Head.{at_most_128, scanned, LiesIn, LieFrom};
+ghost use Rattle.sip_scan.specs.Grammar.{MessageTree, message, IsMessageTree, head_place};
 
 mod field;
 mod lines;
@@ -52,7 +53,15 @@ pub enum ScanFault {
 
 /// The head of the datagram, or the first fault.
 pub fn scan(b: &[u8]) -> Result<Head, ScanFault>
+    // What is read is spelled by the grammar, each span being the place of its part.
+    ensures found { IfOk result (λ h. (t : MessageTree) × IsMessageTree t × (b.now ≡ message t) × (h ≡ head_place t)) }
+    // So is what has too many fields.
+    ensures many { result ≡ Err ScanFault.TooManyHeaders → (t : MessageTree) × IsMessageTree t × (b.now ≡ message t) × (128 < length t.fields) }
+    // What the grammar spells is read, or has too many fields, and nothing else can be.
+    ensures only { (t : MessageTree) → IsMessageTree t → b.now ≡ message t → result ≡ at_most_128 (head_place t) }
+    // The same as a function, with the faults in their order.
     ensures exact { result ≡ scanned b.now }
+    // The parts stand in order within the datagram.
     ensures places { IfOk result (LiesIn b.now) }
 {
     let Some(start) = start_line(b) else {

@@ -2,6 +2,8 @@ use Rattle.std.proofs.Common.{◌≡◌, ◌+◌, ◌-◌, sym, ◌∙◌, ap, N
 use Rattle.sip_scan.specs.declared.field.HeaderSpan.{HeaderSpan}
 use Rattle.sip_scan.specs.Head.{head, LieFrom, LiesIn}
 use Rattle.sip_scan.proofs.Scanned.{not_sip, bad_line, bad_field, too_many, is_head, kept, start_ends}
+use Rattle.sip_scan.proofs.HeadAgain.{only_head}
+use Rattle.sip_scan.proofs.HeadTakes.{found_head, many_fields}
 use Rattle.sip_scan.proofs.scan.Goals as goal
 
 pub returns-in_default-clause-exact : goal.returns-in_default-clause-exact
@@ -38,3 +40,36 @@ returns-clause-places c =
       body_high = omega (arith, bounds);
       each = c.in-Some-fields_at.ensures.each;
     }
+
+pub returns-in_default-clause-many : goal.returns-in_default-clause-many
+returns-in_default-clause-many c = λ e. many_fields c.args.b.now (sym (returns-in_default-clause-exact c) ∙ e)
+
+pub returns-in_default-clause-only : goal.returns-in_default-clause-only
+returns-in_default-clause-only c = λ t is whole. returns-in_default-clause-exact c ∙ only_head c.args.b.now t is whole
+
+pub returns-in_default-line_end-clause-many : goal.returns-in_default-line_end-clause-many
+returns-in_default-line_end-clause-many c = λ e. many_fields c.args.b.now (sym (returns-in_default-line_end-clause-exact c) ∙ e)
+
+pub returns-in_default-line_end-clause-only : goal.returns-in_default-line_end-clause-only
+returns-in_default-line_end-clause-only c = λ t is whole. returns-in_default-line_end-clause-exact c ∙ only_head c.args.b.now t is whole
+
+pub returns-in_default-fields_at-clause-many : goal.returns-in_default-fields_at-clause-many
+returns-in_default-fields_at-clause-many c = λ e. many_fields c.args.b.now (sym (returns-in_default-fields_at-clause-exact c) ∙ e)
+
+pub returns-in_default-fields_at-clause-only : goal.returns-in_default-fields_at-clause-only
+returns-in_default-fields_at-clause-only c = λ t is whole. returns-in_default-fields_at-clause-exact c ∙ only_head c.args.b.now t is whole
+
+pub returns-then-fields-gt128-clause-many : goal.returns-then-fields-gt128-clause-many
+returns-then-fields-gt128-clause-many c = λ e. many_fields c.args.b.now (sym (returns-then-fields-gt128-clause-exact c) ∙ e)
+
+pub returns-then-fields-gt128-clause-only : goal.returns-then-fields-gt128-clause-only
+returns-then-fields-gt128-clause-only c = λ t is whole. returns-then-fields-gt128-clause-exact c ∙ only_head c.args.b.now t is whole
+
+pub returns-clause-many : goal.returns-clause-many
+returns-clause-many c = λ e. many_fields c.args.b.now (sym (returns-clause-exact c) ∙ e)
+
+pub returns-clause-only : goal.returns-clause-only
+returns-clause-only c = λ t is whole. returns-clause-exact c ∙ only_head c.args.b.now t is whole
+
+pub returns-clause-found : goal.returns-clause-found
+returns-clause-found c = found_head c.args.b.now _ (sym (returns-clause-exact c))
