@@ -11,7 +11,7 @@ pub part_is : (line : List ℕ) (n : ℕ) → n ≤ length line → ((k : ℕ) �
 part_is line n le none one =
     let len = length-reverse line in
     let suffix : suffix_len (λ (b : ℕ). not (b == 32)) line ≡ length line - n =
-      prefix_len_is (λ (b : ℕ). not (b == 32)) (reverse line) (length line - n) 0 (omega (arith, len)) (λ k lt. rw (get_or-reverse line k 0 (omega arith)) (passes (length line - 1 - k) (omega arith) (omega arith))) (λ lt. rw (get_or-reverse line (length line - n) 0 (omega (arith, len))) (stops (omega (arith, len)))) in
+    prefix_len_is (λ (b : ℕ). not (b == 32)) (reverse line) (length line - n) 0 (omega (arith, len)) (λ k lt. rw (get_or-reverse line k 0 (omega arith)) (passes (length line - 1 - k) (omega arith) (omega arith))) (λ lt. rw (get_or-reverse line (length line - n) 0 (omega (arith, len))) (stops (omega (arith, len)))) in
     ap (λ (m : ℕ). drop (length line - m) line) suffix ∙ ap (λ (m : ℕ). drop m line) (omega arith)
   where
     passes : (k : ℕ) → n ≤ k → k < length line → not (get_or line k 0 == 32) ≡ true

@@ -1,9 +1,10 @@
-mod Runs
-mod Turns
-mod Kept
-mod LastPart
-mod Scanned
-mod FieldAgain
-mod HeadAgain
-mod FieldTakes
-mod HeadTakes
+pub mod Runs
+pub mod Turns
+pub mod Kept
+pub mod LastPart
+pub mod Scanned
+pub mod FieldAgain
+pub mod HeadAgain
+pub mod FieldTakes
+pub mod HeadTakes
+pub mod Parts

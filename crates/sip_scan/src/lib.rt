@@ -18,14 +18,15 @@ ghost use Rattle.sip_scan.specs.Grammar.{MessageTree, message, IsMessageTree, he
 
 mod field;
 mod lines;
-
-pub use field::{HeaderSpan, Kind, kind_of};
-pub use lines::start_line;
-pub use sip_words::Span;
+#[cfg(test)]
+mod tests;
 
 use arrayvec::ArrayVec;
 use field::field_at;
+pub use field::{HeaderSpan, Kind, kind_of};
+pub use lines::start_line;
 use lines::{is_crlf, line_end};
+pub use sip_words::Span;
 
 /// The head of a message.
 #[derive(Debug, Drop)]
