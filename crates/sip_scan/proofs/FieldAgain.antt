@@ -1,22 +1,18 @@
 -- What the grammar of a field spells is read.
-use Rattle.std.proofs.Common.{◌≡◌, ◌≢◌, ℕ, zero, suc, ◌+◌, ◌-◌, ◌<◌, ◌≤◌, ◌==◌, Bool, true, false, List, [], ◌∷◌, ◌++◌, length, drop, refl, sym, subst, ap, ◌∙◌, inl, inr, arith, Some, None, append_assoc, length-append}
-use Rattle.std.specs.Prelude.{slice_range, ◌⊎◌}
-use Rattle.std.specs.List.{flat_map, AllByRecursion, prefix_len}
-use Rattle.std.proofs.lemmas.Bool.{cases_eq, cases_Bool, eqb-true, ne_eqb, eq-eqb, both_ways, false≢true}
+use Rattle.std.proofs.Common.{◌≡◌, ℕ, ◌+◌, ◌==◌, Bool, true, false, List, [], ◌∷◌, ◌++◌, length, drop, refl, sym, subst, ap, ◌∙◌, inl, inr, arith, Some, append_assoc, length-append}
+use Rattle.std.specs.Prelude.{◌⊎◌}
+use Rattle.std.specs.List.{AllByRecursion, prefix_len}
+use Rattle.std.proofs.lemmas.Bool.{cases_eq, cases_Bool, eqb-true, ne_eqb, false≢true}
 use Rattle.sip_words.specs.declared.bytes.Class.TheVariants.{Token}
-use Rattle.sip_words.specs.declared.Span.{Span}
 use Rattle.sip_words.specs.Bytes.{has, is_wsp}
-use Rattle.sip_words.specs.Words.{word_end, stands}
-use Rattle.sip_words.specs.Spans.{span}
-use Rattle.sip_words.specs.Many.{Next, Item, Done, Repeats}
-use Rattle.sip_words.specs.Grammar.{IsWord}
-use Rattle.sip_words.proofs.Pieces.{behind, part_is, stands_at, Lacks, stands_no, Ends, word_again, other_byte}
+use Rattle.sip_words.specs.Words.{stands}
+use Rattle.sip_words.specs.Many.{Repeats}
+use Rattle.sip_words.proofs.Pieces.{behind, part_is, stands_at, stands_no, Ends, word_again}
 use Rattle.sip_words.proofs.ManyLaws.{repeats_many}
-use Rattle.sip_scan.specs.declared.field.HeaderSpan.{HeaderSpan}
-use Rattle.sip_scan.specs.Lines.{is_break, is_plain, plain_end, wsp_end, is_crlf, line_end, continues, next_line, lines_at, folded_end}
-use Rattle.sip_scan.specs.Field.{kind_of, field_at, next_field}
-use Rattle.sip_scan.specs.Grammar.{crlf, IsLine, IsContinuation, lines, FieldTree, field, IsFieldTree, field_place, fields, field_places}
-use Rattle.sip_scan.proofs.Turns.{lines_advance, line_next, line_done, field_next, field_done}
+use Rattle.sip_scan.specs.Lines.{is_plain, plain_end, wsp_end, is_crlf, line_end, continues, next_line, lines_at, folded_end}
+use Rattle.sip_scan.specs.Field.{field_at}
+use Rattle.sip_scan.specs.Grammar.{crlf, IsLine, IsContinuation, lines, FieldTree, field, IsFieldTree, field_place}
+use Rattle.sip_scan.proofs.Turns.{lines_advance, line_next, line_done}
 
 -- a run of bytes that pass, before one that doesn't
 pub run_len : (p : ℕ → Bool) (w : List ℕ) (b : ℕ) (rest : List ℕ) → AllByRecursion (λ c. p c ≡ true) w → p b ≡ false → prefix_len p (w ++ b ∷ rest) ≡ length w

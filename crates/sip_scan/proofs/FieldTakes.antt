@@ -1,20 +1,18 @@
 -- A field that is read is spelled by the grammar.
-use Rattle.std.proofs.Common.{◌≡◌, ◌≢◌, ℕ, zero, suc, ◌+◌, ◌-◌, ◌<◌, ◌≤◌, ◌==◌, Bool, true, false, cond, List, [], ◌∷◌, ◌++◌, length, drop, refl, sym, subst, ap, ◌∙◌, inl, inr, arith, Option, Some, None, append_assoc, length-append}
-use Rattle.std.specs.Prelude.{slice_range, slice_get, ◌⊎◌}
-use Rattle.std.specs.List.{flat_map, AllByRecursion, prefix_len}
+use Rattle.std.proofs.Common.{◌≡◌, ℕ, suc, ◌+◌, Bool, true, false, cond, List, [], ◌∷◌, ◌++◌, length, drop, refl, sym, subst, ap, ◌∙◌, inl, inr, arith, Option, Some, None}
+use Rattle.std.specs.List.{AllByRecursion, prefix_len}
 use Rattle.std.proofs.lemmas.Bool.{cases_Bool, false≢true}
-use Rattle.std.proofs.lemmas.Option.{same_Some, none-some, cond_some}
+use Rattle.std.proofs.lemmas.Option.{same_Some, none-some}
 use Rattle.sip_words.specs.declared.bytes.Class.TheVariants.{Token}
 use Rattle.sip_words.specs.Bytes.{is_wsp}
-use Rattle.sip_words.specs.Words.{◌>>=◌, word_end, stands}
-use Rattle.sip_words.specs.Many.{Next, Item, Done, Wrong, Repeats, many}
-use Rattle.sip_words.specs.Grammar.{IsWord}
+use Rattle.sip_words.specs.Words.{word_end, stands}
+use Rattle.sip_words.specs.Many.{Item, Done, Repeats, many}
 use Rattle.sip_words.proofs.Steps.{bind_some, stands_is}
 use Rattle.sip_words.proofs.Pieces.{at_front}
 use Rattle.sip_words.proofs.Takes.{Takes, then, takes, word_takes, stands_takes}
 use Rattle.sip_words.proofs.ManyLaws.{many_repeats}
 use Rattle.sip_scan.specs.declared.field.HeaderSpan.{HeaderSpan}
-use Rattle.sip_scan.specs.Lines.{is_break, is_plain, plain_end, wsp_end, is_crlf, line_end, continues, line_item, next_line, lines_at, folded_end}
+use Rattle.sip_scan.specs.Lines.{is_plain, plain_end, wsp_end, is_crlf, line_end, continues, line_item, next_line, lines_at, folded_end}
 use Rattle.sip_scan.specs.Field.{field_at, item, next_field}
 use Rattle.sip_scan.specs.Grammar.{crlf, IsLine, IsContinuation, lines, FieldTree, field, IsFieldTree, fields}
 use Rattle.sip_scan.proofs.Turns.{line_is}

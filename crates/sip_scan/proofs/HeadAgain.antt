@@ -1,21 +1,19 @@
 -- What the grammar of a message spells is read.
-use Rattle.std.proofs.Common.{◌≡◌, ◌≢◌, ℕ, zero, suc, ◌+◌, ◌-◌, ◌<◌, ◌≤◌, ◌==◌, Bool, true, false, List, [], ◌∷◌, ◌++◌, length, drop, refl, sym, subst, ap, ◌∙◌, inl, inr, arith, Some, None, append_assoc, length-append}
-use Rattle.std.specs.Prelude.{slice_range}
-use Rattle.std.specs.List.{flat_map, AllByRecursion, prefix_len}
+use Rattle.std.proofs.Common.{◌≡◌, ℕ, ◌+◌, ◌==◌, true, false, List, [], ◌∷◌, ◌++◌, length, drop, refl, sym, subst, ap, ◌∙◌, inl, inr, arith, Some, append_assoc, length-append}
+use Rattle.std.specs.List.{AllByRecursion}
 use Rattle.std.proofs.lemmas.Bool.{cases_Bool, false≢true}
 use Rattle.std.proofs.lemmas.List.{drop_at}
 use Rattle.sip_words.specs.declared.bytes.Class.TheVariants.{Token}
 use Rattle.sip_words.specs.declared.Span.{Span}
 use Rattle.sip_words.specs.Bytes.{has, is_wsp}
-use Rattle.sip_words.specs.Words.{stands}
 use Rattle.sip_words.specs.Spans.{span}
 use Rattle.sip_words.specs.Many.{Repeats}
 use Rattle.sip_words.specs.Grammar.{IsWord}
 use Rattle.sip_words.proofs.Pieces.{behind, part_is, stands_no, other_byte}
 use Rattle.sip_words.proofs.ManyLaws.{repeats_many}
-use Rattle.sip_scan.specs.Lines.{is_break, is_plain, is_crlf, line_end, skipped, first_crlf, begins_sip, speaks_sip, start_line}
-use Rattle.sip_scan.specs.Field.{field_at, next_field, fields_at}
-use Rattle.sip_scan.specs.Head.{head, head_behind, at_most_128, scanned}
+use Rattle.sip_scan.specs.Lines.{is_break, is_plain, is_crlf, skipped, begins_sip, speaks_sip, start_line}
+use Rattle.sip_scan.specs.Field.{next_field, fields_at}
+use Rattle.sip_scan.specs.Head.{head_behind, at_most_128, scanned}
 use Rattle.sip_scan.specs.Grammar.{crlf, IsLine, FieldTree, field, IsFieldTree, field_place, fields, field_places, MessageTree, message, IsMessageTree, head_place}
 use Rattle.sip_scan.proofs.Turns.{fields_advance, field_next, field_done, line_is, line_past}
 use Rattle.sip_scan.proofs.Scanned.{line_first, behind_is}

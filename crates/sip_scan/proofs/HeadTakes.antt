@@ -1,23 +1,20 @@
 -- A head that is read is spelled by the grammar.
 use Rattle.std.proofs.Common.{◌≡◌, ◌≢◌, ℕ, suc, ◌+◌, ◌<◌, ◌≤◌, true, List, [], ◌∷◌, ◌++◌, length, drop, refl, sym, subst, ap, ◌∙◌, inl, inr, arith, Option, Some, None, Result, Ok, Err, append_assoc}
-use Rattle.std.specs.Prelude.{slice_range, nat_lt, ◌⊎◌}
+use Rattle.std.specs.Prelude.{slice_range, ◌⊎◌}
 use Rattle.std.specs.List.{AllByRecursion, prefix_len}
 use Rattle.std.proofs.lemmas.Bool.{cases_lt, lt-ltb, le-ltb}
-use Rattle.std.proofs.lemmas.Option.{same_Some, none-some}
+use Rattle.std.proofs.lemmas.Option.{same_Some}
 use Rattle.sip_words.specs.declared.Span.{Span}
-use Rattle.sip_words.specs.Words.{◌>>=◌}
-use Rattle.sip_words.specs.Spans.{span}
 use Rattle.sip_words.specs.Many.{many}
 use Rattle.sip_words.proofs.Steps.{bind_some}
 use Rattle.sip_words.proofs.Takes.{Takes, then, takes, part_taken}
 use Rattle.sip_words.proofs.ManyLaws.{many_repeats}
-use Rattle.sip_scan.specs.declared.field.HeaderSpan.{HeaderSpan}
 use Rattle.sip_scan.specs.declared.Head.{Head}
 use Rattle.sip_scan.specs.declared.ScanFault.{ScanFault}
 use Rattle.sip_scan.specs.declared.ScanFault.TheVariants.{NotSip, BadHeader, TooManyHeaders}
 use Rattle.sip_scan.specs.Lines.{is_break, line_end, skipped, speaks_sip, start_line}
 use Rattle.sip_scan.specs.Field.{next_field, fields_at}
-use Rattle.sip_scan.specs.Head.{head, head_behind, at_most_128, counted, scanned_behind, scanned}
+use Rattle.sip_scan.specs.Head.{head_behind, at_most_128, counted, scanned_behind, scanned}
 use Rattle.sip_scan.specs.Grammar.{crlf, FieldTree, field, fields, field_places, MessageTree, message, IsMessageTree, head_place}
 use Rattle.sip_scan.proofs.Scanned.{start_is, start_ends}
 use Rattle.sip_scan.proofs.FieldTakes.{passing, crlf_takes, line_takes, fields_take}

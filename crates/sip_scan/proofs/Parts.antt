@@ -1,5 +1,5 @@
 -- The parts of a field lie within the text.
-use Rattle.std.proofs.Common.{ℕ, ◌≤◌, List, arith}
+use Rattle.std.proofs.Common.{ℕ, List, arith}
 use Rattle.std.specs.Prelude.{All}
 use Rattle.sip_words.specs.Spans.{IsWithin}
 use Rattle.sip_scan.specs.declared.field.HeaderSpan.{HeaderSpan}

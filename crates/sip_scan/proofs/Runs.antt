@@ -1,9 +1,9 @@
 -- One step of each run.
-use Rattle.std.proofs.Common.{◌≡◌, ℕ, zero, suc, ◌+◌, ◌-◌, ◌<◌, ◌≤◌, Bool, true, false, List, [], ◌∷◌, length, drop, get_or, refl, sym, ap, ◌∙◌, arith, Option, Some, None}
+use Rattle.std.proofs.Common.{◌≡◌, ℕ, suc, ◌+◌, ◌-◌, ◌<◌, ◌≤◌, true, false, List, length, drop, get_or, refl, arith, Some, None}
 use Rattle.std.specs.List.{prefix_len}
 use Rattle.std.proofs.lemmas.List.{drop_more, drop_all}
 use Rattle.sip_words.specs.Bytes.{is_wsp}
-use Rattle.sip_scan.specs.Lines.{is_break, is_plain, plain_end, wsp_end, skipped, is_crlf, first_place, first_crlf}
+use Rattle.sip_scan.specs.Lines.{is_break, is_plain, plain_end, wsp_end, skipped, is_crlf, first_crlf}
 
 pub plain_stops : (text : List ℕ) (i : ℕ) → i < length text → is_plain (get_or text i 0) ≡ false → plain_end text i ≡ i
 unfolding plain_end

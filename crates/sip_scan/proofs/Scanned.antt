@@ -1,16 +1,13 @@
 -- The exits of a scan.
-use Rattle.std.proofs.Common.{◌≡◌, ℕ, zero, suc, ◌+◌, ◌-◌, ◌<◌, ◌≤◌, ◌==◌, Bool, true, false, List, [], ◌∷◌, length, take, get_or, refl, sym, ap, ◌∙◌, inl, inr, arith, Option, Some, None, Result, Ok, Err}
-use Rattle.std.specs.Prelude.{slice_range, slice_get}
+use Rattle.std.proofs.Common.{◌≡◌, ℕ, zero, suc, ◌+◌, ◌-◌, ◌<◌, ◌≤◌, true, false, List, length, take, get_or, refl, sym, ap, ◌∙◌, inl, inr, arith, Some, None, Ok, Err}
+use Rattle.std.specs.Prelude.{slice_range}
 use Rattle.std.proofs.lemmas.List.{take_all}
 use Rattle.std.proofs.lemmas.Bool.{false≢true, cases_Bool, cases_lt, lt-ltb, le-ltb}
-use Rattle.std.proofs.lemmas.Option.{same_Some, none-some, cond_some, get_or_from_slice_get}
+use Rattle.std.proofs.lemmas.Option.{same_Some, cond_some, get_or_from_slice_get}
 use Rattle.sip_words.specs.declared.Span.{Span}
-use Rattle.sip_words.specs.Spans.{span}
-use Rattle.sip_words.specs.Words.{◌>>=◌, stands}
+use Rattle.sip_words.specs.Words.{stands}
 use Rattle.sip_words.proofs.Steps.{bind_some, stands_is}
 use Rattle.sip_scan.specs.declared.field.HeaderSpan.{HeaderSpan}
-use Rattle.sip_scan.specs.declared.Head.{Head}
-use Rattle.sip_scan.specs.declared.ScanFault.{ScanFault}
 use Rattle.sip_scan.specs.declared.ScanFault.TheVariants.{NotSip, BadHeader, TooManyHeaders}
 use Rattle.sip_scan.specs.Lines.{is_plain, plain_end, is_crlf, line_end, skipped, first_crlf, speaks_sip, start_line}
 use Rattle.sip_scan.specs.Field.{fields_at}

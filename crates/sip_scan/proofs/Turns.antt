@@ -1,13 +1,11 @@
 -- The turns of the loops over continuation lines and over fields.
-use Rattle.std.proofs.Common.{◌≡◌, ℕ, zero, suc, ◌+◌, ◌-◌, ◌<◌, ◌≤◌, Bool, true, false, cond, List, [], ◌∷◌, ◌++◌, length, drop, get_or, refl, sym, ap, ◌∙◌, subst, inl, inr, arith, Option, Some, None}
+use Rattle.std.proofs.Common.{◌≡◌, ℕ, ◌+◌, ◌<◌, ◌≤◌, Bool, true, false, cond, List, [], ◌∷◌, length, refl, ap, inl, inr, arith, Option, Some, None}
 use Rattle.std.proofs.lemmas.List.{drop_all}
 use Rattle.std.proofs.lemmas.Bool.{cases_Bool, cases_lt}
 use Rattle.std.proofs.lemmas.Option.{same_Some, none-some, cond_some, slice_get_within}
-use Rattle.std.specs.List.{prefix_len}
-use Rattle.std.specs.Prelude.{slice_get}
 use Rattle.sip_words.specs.declared.bytes.Class.TheVariants.{Token}
-use Rattle.sip_words.specs.Words.{◌>>=◌, run_end, word_end, stands}
-use Rattle.sip_words.specs.Many.{Next, Item, Done, Wrong, Advances, Repeats, many}
+use Rattle.sip_words.specs.Words.{run_end, word_end, stands}
+use Rattle.sip_words.specs.Many.{Item, Done, Wrong, Advances, Repeats, many}
 use Rattle.sip_words.proofs.Steps.{bind_some, stands_is}
 use Rattle.sip_words.proofs.Digits.{word_is}
 use Rattle.sip_words.proofs.ManyLaws.{many_repeats}

@@ -1,5 +1,5 @@
 -- The head of a message, as a function of a datagram (RFC 3261, section 7).
-use Rattle.std.specs.Prelude.{◌≡◌, ℕ, ◌+◌, ◌-◌, ◌≤◌, All, Bool, List, [], ◌∷◌, length, Option, Some, None, Result, Ok, Err, nat_lt, is_none, if◌then◌else◌}
+use Rattle.std.specs.Prelude.{◌≡◌, ℕ, ◌+◌, ◌-◌, ◌≤◌, All, List, [], ◌∷◌, length, Option, Some, None, Result, Ok, Err, nat_lt, if◌then◌else◌}
 use Rattle.sip_words.specs.declared.Span.{Span}
 use Rattle.sip_words.specs.Words.{◌>>=◌}
 use Rattle.sip_words.specs.Spans.{IsWithin}

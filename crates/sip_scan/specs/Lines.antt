@@ -1,5 +1,5 @@
 -- The lines of a head, as functions of a text and a place in it (RFC 3261, sections 7 and 7.3.1).
-use Rattle.std.specs.Prelude.{ℕ, zero, suc, ◌+◌, ◌-◌, ◌==◌, not, Bool, cond, List, [], ◌∷◌, length, drop, take, Option, Some, None, if◌then◌else◌, slice_range, codes}
+use Rattle.std.specs.Prelude.{ℕ, zero, suc, ◌+◌, ◌-◌, ◌==◌, not, Bool, cond, List, length, drop, take, Option, Some, None, if◌then◌else◌, slice_range, codes}
 use Rattle.std.specs.List.{prefix_len, after_last}
 use Rattle.std.specs.Str.{str_eq_ignore_ascii_case}
 use Rattle.sip_words.specs.declared.Span.{Span}

@@ -1,9 +1,7 @@
-use Rattle.std.proofs.Common.{◌≡◌, ◌∷◌, ◌++◌, [], refl, sym, ◌∙◌, ap, None, Some, length, List, arith, length-append, length-take}
-use Rattle.std.specs.Prelude.{IfNone}
+use Rattle.std.proofs.Common.{◌≡◌, ◌∷◌, ◌++◌, [], sym, ap, None, length, arith, length-append, length-take}
 use Rattle.sip_words.proofs.ManyLaws.{goes_on, fails, ends}
-use Rattle.sip_scan.specs.declared.field.HeaderSpan.{HeaderSpan}
 use Rattle.sip_scan.specs.Field.{next_field, fields_at}
-use Rattle.sip_scan.proofs.Kept.{Seen, kept_more, lie_push}
+use Rattle.sip_scan.proofs.Kept.{kept_more, lie_push}
 use Rattle.sip_scan.proofs.Turns.{fields_advance, field_next, field_wrong, field_done}
 use Rattle.sip_scan.proofs.fields_at.Goals as goal
 

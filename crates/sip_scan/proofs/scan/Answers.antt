@@ -1,6 +1,6 @@
-use Rattle.std.proofs.Common.{◌≡◌, ◌+◌, ◌-◌, sym, ◌∙◌, ap, None, Some, Ok, length, List, ℕ, arith}
+use Rattle.std.proofs.Common.{◌≡◌, ◌+◌, ◌-◌, sym, ◌∙◌, ap, Ok, List, arith}
 use Rattle.sip_scan.specs.declared.field.HeaderSpan.{HeaderSpan}
-use Rattle.sip_scan.specs.Head.{head, LieFrom, LiesIn}
+use Rattle.sip_scan.specs.Head.{head}
 use Rattle.sip_scan.proofs.Scanned.{not_sip, bad_line, bad_field, too_many, is_head, kept, start_ends}
 use Rattle.sip_scan.proofs.HeadAgain.{only_head}
 use Rattle.sip_scan.proofs.HeadTakes.{found_head, many_fields}

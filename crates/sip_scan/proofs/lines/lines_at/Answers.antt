@@ -1,6 +1,5 @@
-use Rattle.std.proofs.Common.{◌≡◌, ◌∷◌, ◌++◌, [], sym, ◌∙◌, refl, ap, None, Some, length, List, ℕ, ◌+◌, arith, Option}
-use Rattle.std.specs.Prelude.{option_map}
-use Rattle.sip_words.proofs.ManyLaws.{goes_on, fails, ends, starts}
+use Rattle.std.proofs.Common.{◌∷◌, ◌++◌, [], sym, ◌∙◌, refl, length, ◌+◌, arith}
+use Rattle.sip_words.proofs.ManyLaws.{goes_on, fails, ends}
 use Rattle.sip_scan.specs.Lines.{next_line, lines_at}
 use Rattle.sip_scan.proofs.Turns.{lines_advance, line_next, line_wrong, line_done}
 use Rattle.sip_scan.proofs.lines.lines_at.Goals as goal
