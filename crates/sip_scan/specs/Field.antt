@@ -11,22 +11,35 @@ use Rattle.sip_scan.specs.declared.field.Kind.{Kind}
 use Rattle.sip_scan.specs.declared.field.Kind.TheVariants as kind
 use Rattle.sip_scan.specs.Lines.{wsp_end, is_crlf, folded_end}
 
--- the name in full, or in its compact form; case is ignored
-abbrev pub is_name : List ℕ → List ℕ → List ℕ → Bool
-is_name name full compact = str_eq_ignore_ascii_case name full or str_eq_ignore_ascii_case name compact
+abbrev pub is_word : List ℕ → List ℕ → Bool
+is_word a b = str_eq_ignore_ascii_case a b
+
+-- compact names are spelled out (RFC 3261, section 7.3.3); case is ignored
+unfoldable pub full_name : List ℕ → List ℕ
+full_name name =
+    if is_word name (codes "v") then codes "Via" else
+    if is_word name (codes "f") then codes "From" else
+    if is_word name (codes "t") then codes "To" else
+    if is_word name (codes "i") then codes "Call-ID" else
+    if is_word name (codes "m") then codes "Contact" else
+    if is_word name (codes "l") then codes "Content-Length" else
+    if is_word name (codes "c") then codes "Content-Type" else
+    if is_word name (codes "k") then codes "Supported" else
+    if is_word name (codes "s") then codes "Subject" else
+    if is_word name (codes "e") then codes "Content-Encoding" else name
 
 unfoldable pub kind_of : List ℕ → Kind
 kind_of name =
-    if is_name name (codes "Via") (codes "v") then kind.Via else
-    if is_name name (codes "From") (codes "f") then kind.From else
-    if is_name name (codes "To") (codes "t") then kind.To else
-    if is_name name (codes "Call-ID") (codes "i") then kind.CallId else
-    if str_eq_ignore_ascii_case name (codes "CSeq") then kind.CSeq else
-    if str_eq_ignore_ascii_case name (codes "Max-Forwards") then kind.MaxForwards else
-    if str_eq_ignore_ascii_case name (codes "Route") then kind.Route else
-    if str_eq_ignore_ascii_case name (codes "Record-Route") then kind.RecordRoute else
-    if is_name name (codes "Contact") (codes "m") then kind.Contact else
-    if is_name name (codes "Content-Length") (codes "l") then kind.ContentLength else kind.Other
+    if is_word (full_name name) (codes "Via") then kind.Via else
+    if is_word (full_name name) (codes "From") then kind.From else
+    if is_word (full_name name) (codes "To") then kind.To else
+    if is_word (full_name name) (codes "Call-ID") then kind.CallId else
+    if is_word (full_name name) (codes "CSeq") then kind.CSeq else
+    if is_word (full_name name) (codes "Max-Forwards") then kind.MaxForwards else
+    if is_word (full_name name) (codes "Route") then kind.Route else
+    if is_word (full_name name) (codes "Record-Route") then kind.RecordRoute else
+    if is_word (full_name name) (codes "Contact") then kind.Contact else
+    if is_word (full_name name) (codes "Content-Length") then kind.ContentLength else kind.Other
 
 -- token *(SP / HTAB) ":" value CRLF, where the value may go on in continuation lines
 unfoldable pub field_at : List ℕ → ℕ → Option HeaderSpan

@@ -1,6 +1,6 @@
 //! Header fields.
 ghost use Rattle.std.specs.Prelude.{◌≡◌, ◌≤◌, ◌<◌, ◌+◌, length, IfSome};
-ghost use Rattle.sip_scan.specs.Field.{is_name, kind_of, field_at, IsField};
+ghost use Rattle.sip_scan.specs.Field.{full_name, kind_of, field_at, IsField};
 
 use crate::lines::{folded_end, wsp_end};
 use sip_words::words::{same_word, stands, word_end};
@@ -19,50 +19,78 @@ pub enum Kind {
     RecordRoute,
     Contact,
     ContentLength,
+    /// A field of any other name.
     #[default]
     Other,
 }
 
-/// A header field. `value` is all that stands between the colon and the CRLF that ends the field: blanks and folds
-/// round it are part of it. `whole` is from the name to behind that CRLF.
+/// A header field, as spans of the datagram.
 #[derive(Clone, Copy, Debug, Default, PartialEq, Eq)]
 pub struct HeaderSpan {
     pub kind: Kind,
+    /// The name, without the blanks that may stand before the colon.
     pub name: Span,
+    /// All that stands between the colon and the CRLF that ends the field: blanks and folds round the value too.
     pub value: Span,
+    /// From the name to behind that CRLF.
     pub whole: Span,
 }
 
-fn is_name(name: &[u8], full: &[u8], compact: &[u8]) -> bool
-    ensures { result ≡ is_name name.now full.now compact.now }
+/// The full name that this compact name stands for, or the name itself (RFC 3261, section 7.3.3). Case is ignored.
+#[tactic(auto, unfolding(crate::specs::Field::full_name))]
+pub fn full_name(name: &[u8]) -> &[u8]
+    ensures { result.now ≡ full_name name.now }
 {
-    same_word(name, full) || same_word(name, compact)
+    if same_word(name, b"v") {
+        b"Via"
+    } else if same_word(name, b"f") {
+        b"From"
+    } else if same_word(name, b"t") {
+        b"To"
+    } else if same_word(name, b"i") {
+        b"Call-ID"
+    } else if same_word(name, b"m") {
+        b"Contact"
+    } else if same_word(name, b"l") {
+        b"Content-Length"
+    } else if same_word(name, b"c") {
+        b"Content-Type"
+    } else if same_word(name, b"k") {
+        b"Supported"
+    } else if same_word(name, b"s") {
+        b"Subject"
+    } else if same_word(name, b"e") {
+        b"Content-Encoding"
+    } else {
+        name
+    }
 }
 
-/// The kind of a field of this name, in full or in its compact form (RFC 3261, section 7.3.3). Case is ignored.
+/// The kind of a field of this name, in full or compact. Case is ignored.
 #[tactic(auto, unfolding(crate::specs::Field::kind_of))]
 pub fn kind_of(name: &[u8]) -> Kind
     ensures { result ≡ kind_of name.now }
 {
-    if is_name(name, b"Via", b"v") {
+    let full = full_name(name);
+    if same_word(full, b"Via") {
         Kind::Via
-    } else if is_name(name, b"From", b"f") {
+    } else if same_word(full, b"From") {
         Kind::From
-    } else if is_name(name, b"To", b"t") {
+    } else if same_word(full, b"To") {
         Kind::To
-    } else if is_name(name, b"Call-ID", b"i") {
+    } else if same_word(full, b"Call-ID") {
         Kind::CallId
-    } else if same_word(name, b"CSeq") {
+    } else if same_word(full, b"CSeq") {
         Kind::CSeq
-    } else if same_word(name, b"Max-Forwards") {
+    } else if same_word(full, b"Max-Forwards") {
         Kind::MaxForwards
-    } else if same_word(name, b"Route") {
+    } else if same_word(full, b"Route") {
         Kind::Route
-    } else if same_word(name, b"Record-Route") {
+    } else if same_word(full, b"Record-Route") {
         Kind::RecordRoute
-    } else if is_name(name, b"Contact", b"m") {
+    } else if same_word(full, b"Contact") {
         Kind::Contact
-    } else if is_name(name, b"Content-Length", b"l") {
+    } else if same_word(full, b"Content-Length") {
         Kind::ContentLength
     } else {
         Kind::Other

@@ -23,7 +23,7 @@ mod tests;
 
 use arrayvec::ArrayVec;
 use field::field_at;
-pub use field::{HeaderSpan, Kind, kind_of};
+pub use field::{HeaderSpan, Kind, full_name, kind_of};
 pub use lines::start_line;
 use lines::{is_crlf, line_end};
 pub use sip_words::Span;

@@ -1,7 +1,7 @@
 //! Heads worked out by hand.
 ghost use Rattle.std.specs.Prelude.{◌≤◌, length};
 
-use crate::{Kind, ScanFault, Span, scan, start_line};
+use crate::{Kind, ScanFault, Span, full_name, scan, start_line};
 use std::process::Abort;
 
 /// The datagram has these fields, each told by kind, name and value, and this body.
@@ -192,4 +192,13 @@ fn the_start_line_alone(rt: HostRuntime) {
     assert!(rt; start_line(b"\r\nACK sip:a SIP/2.0\r\n bad") == Some(Span { from: 2, to: 19 }));
     assert!(rt; start_line(b"SIP/2.0\r\n") == Some(Span { from: 0, to: 7 }));
     assert!(rt; start_line(b"SIP /2.0\r\n") == None);
+}
+
+#[test]
+fn compact_names(rt: HostRuntime) {
+    assert_eq!(rt; full_name(b"C"), b"Content-Type".as_slice());
+    assert_eq!(rt; full_name(b"k"), b"Supported".as_slice());
+    assert_eq!(rt; full_name(b"S"), b"Subject".as_slice());
+    assert_eq!(rt; full_name(b"e"), b"Content-Encoding".as_slice());
+    assert_eq!(rt; full_name(b"x"), b"x".as_slice());
 }
