@@ -1,5 +1,5 @@
 -- The text after one edit more.
-use Rattle.std.proofs.Common.{◌≡◌, ◌≢◌, ℕ, ◌+◌, ◌-◌, ◌<◌, ◌≤◌, true, false, List, [], ◌∷◌, ◌++◌, length, take, drop, refl, sym, ap, ◌∙◌, arith, append_assoc, length-take, length-drop}
+use Rattle.std.proofs.Common.{◌≡◌, ◌≢◌, ℕ, ◌+◌, ◌-◌, ◌<◌, ◌≤◌, true, false, List, [], ◌∷◌, ◌++◌, length, take, drop, refl, sym, ap, ◌∙◌, arith, append_assoc, length-take, length-drop, inl, inr}
 use Rattle.std.specs.Prelude.{if◌then◌else◌, slice_range}
 use Rattle.std.proofs.lemmas.List.{append-nil, take_at, drop_at, take-append-drop, drop-drop}
 use Rattle.std.proofs.lemmas.Bool.{ne_eqb, eq-eqb}
@@ -8,7 +8,7 @@ use Rattle.sip_words.specs.declared.Span.{Span}
 use Rattle.msg_edits.specs.declared.parts.Edit.{Edit}
 use Rattle.msg_edits.specs.declared.parts.Edit.TheVariants.{Cut, Insert}
 use Rattle.msg_edits.specs.Edited.{has_byte, is_cut, inserted_at, edited_byte, edited_from, edited}
-use Rattle.msg_edits.specs.Laws.{LiesWithin, left_by_cut}
+use Rattle.msg_edits.specs.Laws.{LiesWithin, left_by_cut, IsElsewhere}
 use Rattle.msg_edits.proofs.Steps.{inserted_push, cut_push}
 use Rattle.msg_edits.proofs.Pieces.{from_append}
 
@@ -24,7 +24,7 @@ edited_none text = append-nil _ ∙ from_none 0 text
 same_byte : (edits more : List Edit) (i b : ℕ) → inserted_at more i ≡ inserted_at edits i → is_cut more i ≡ is_cut edits i → edited_byte more (i, b) ≡ edited_byte edits (i, b)
 same_byte edits more i b inserts cuts = rw (inserts, cuts) refl
 
-same_bytes : (edits more : List Edit) (i : ℕ) (bytes : List ℕ) → ((k : ℕ) → i ≤ k → k < i + length bytes → inserted_at more k ≡ inserted_at edits k) → ((k : ℕ) → i ≤ k → k < i + length bytes → is_cut more k ≡ is_cut edits k) → edited_from more i bytes ≡ edited_from edits i bytes
+pub same_bytes : (edits more : List Edit) (i : ℕ) (bytes : List ℕ) → ((k : ℕ) → i ≤ k → k < i + length bytes → inserted_at more k ≡ inserted_at edits k) → ((k : ℕ) → i ≤ k → k < i + length bytes → is_cut more k ≡ is_cut edits k) → edited_from more i bytes ≡ edited_from edits i bytes
 same_bytes edits more i [] inserts cuts = refl
 same_bytes edits more i (b ∷ bytes) inserts cuts =
     let here = same_byte edits more i b (inserts i (omega arith) (omega arith)) (cuts i (omega arith) (omega arith)) in
@@ -170,3 +170,17 @@ replace_law text at new within =
     let front = take at.from text in
     let back = drop at.to text in
     insert_law text (Cut at ∷ []) at.from new (omega (arith, within)) ∙ rw (below_cut text at within, one_cut text at within, take_at front back (length front) refl, drop_at front back (length front) refl) refl
+
+pub parts_law : (text : List ℕ) (edits : List Edit) (i : ℕ) → i ≤ length text → edited text edits ≡ edited_from edits 0 (take i text) ++ edited_from edits i (drop i text) ++ inserted_at edits (length text)
+unfolding edited
+parts_law text edits i le =
+    let n : 0 + length (take i text) ≡ i = omega (arith, length-take i text) in
+    let parts = from_append edits 0 (take i text) (drop i text) in
+    let whole : edited_from edits 0 text ≡ edited_from edits 0 (take i text) ++ edited_from edits i (drop i text) = ap (λ (t : List ℕ). edited_from edits 0 t) (sym (take-append-drop i text)) ∙ parts ∙ ap (λ (m : ℕ). edited_from edits 0 (take i text) ++ edited_from edits m (drop i text)) n in
+    ap (λ (t : List ℕ). t ++ inserted_at edits (length text)) whole
+
+pub elsewhere_law : (edits : List Edit) (e : Edit) (i : ℕ) (bytes : List ℕ) → IsElsewhere i (i + length bytes) e → edited_from (edits ++ e ∷ []) i bytes ≡ edited_from edits i bytes
+elsewhere_law edits (Cut at) i bytes (inl below) = same_bytes edits (edits ++ Cut at ∷ []) i bytes (λ k low high. cut_inserts edits at k) (λ k low high. cut_elsewhere edits at k (has_above at k (omega arith)))
+elsewhere_law edits (Cut at) i bytes (inr above) = same_bytes edits (edits ++ Cut at ∷ []) i bytes (λ k low high. cut_inserts edits at k) (λ k low high. cut_elsewhere edits at k (has_below at k (omega arith)))
+elsewhere_law edits (Insert place new) i bytes (inl below) = same_bytes edits (edits ++ Insert place new ∷ []) i bytes (λ k low high. insert_elsewhere edits place k new (omega arith)) (λ k low high. insert_cuts edits place k new)
+elsewhere_law edits (Insert place new) i bytes (inr above) = same_bytes edits (edits ++ Insert place new ∷ []) i bytes (λ k low high. insert_elsewhere edits place k new (omega arith)) (λ k low high. insert_cuts edits place k new)

@@ -1,5 +1,5 @@
-mod Steps
-mod Pieces
-mod Grown
-mod Lengths
-mod Once
+pub mod Steps
+pub mod Pieces
+pub mod Grown
+pub mod Lengths
+pub mod Once

@@ -1,5 +1,5 @@
 -- Words in which the laws of edited texts are said.
-use Rattle.std.specs.Prelude.{ℕ, ◌-◌, ◌≤◌, List, length}
+use Rattle.std.specs.Prelude.{ℕ, ◌-◌, ◌≤◌, List, length, ◌<◌, ◌⊎◌}
 use Rattle.std.specs.List.{flat_map, enumerate_from, count_by}
 use Rattle.msg_edits.specs.declared.parts.Edit.{Edit}
 use Rattle.msg_edits.specs.declared.parts.Edit.TheVariants.{Cut, Insert}
@@ -26,3 +26,8 @@ insert_length (Insert place new) = length new
 -- what is left of the bytes from place i on where all of them are cut: the inserts before them
 abbrev pub left_by_cut : List Edit → ℕ → List ℕ → List ℕ
 left_by_cut edits i bytes = flat_map (λ (byte : ℕ × ℕ). inserted_at edits byte.0) (enumerate_from i bytes)
+
+-- the edit has no byte and no place from i up to j
+abbrev pub IsElsewhere : ℕ → ℕ → Edit → Type 0
+IsElsewhere i j (Cut at) = (at.to ≤ i) ⊎ (j ≤ at.from)
+IsElsewhere i j (Insert place new) = (place < i) ⊎ (j ≤ place)

@@ -6,7 +6,7 @@ ghost use Rattle.msg_edits.specs.declared.parts.Edit.{Edit};
 ghost use Rattle.msg_edits.specs.declared.parts.Edit.TheVariants.{Cut, Insert};
 ghost use Rattle.msg_edits.specs.Edited.{inserted_at, edited_from, edited};
 ghost use Rattle.msg_edits.specs.Causes.{MeetsCut};
-ghost use Rattle.msg_edits.specs.Laws.{LiesWithin, IsCutOnce, cut_length, insert_length, left_by_cut};
+ghost use Rattle.msg_edits.specs.Laws.{LiesWithin, IsCutOnce, cut_length, insert_length, left_by_cut, IsElsewhere};
 
 /// No edits leave the text as it is.
 pub fn no_edits_leave_the_text()
@@ -41,4 +41,16 @@ pub fn a_span_is_replaced()
 pub fn the_lengths_add_up()
     ensures { (text : List ℕ) (edits : List Edit) → All (LiesWithin text) edits → IsCutOnce edits
         → length (edited text edits) + sum_by cut_length edits ≡ length text + sum_by insert_length edits }
+{}
+
+/// What two parts of a text become stands side by side.
+pub fn a_text_is_its_parts()
+    ensures { (text : List ℕ) (edits : List Edit) (i : ℕ) → i ≤ length text
+        → edited text edits ≡ edited_from edits 0 (take i text) ++ edited_from edits i (drop i text) ++ inserted_at edits (length text) }
+{}
+
+/// One edit more changes nothing in a part where it has no byte and no place.
+pub fn an_edit_elsewhere_changes_nothing()
+    ensures { (edits : List Edit) (edit : Edit) (i : ℕ) (bytes : List ℕ) → IsElsewhere i (i + length bytes) edit
+        → edited_from (edits ++ edit ∷ []) i bytes ≡ edited_from edits i bytes }
 {}
