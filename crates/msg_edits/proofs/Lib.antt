@@ -1,0 +1,5 @@
+pub mod Steps
+pub mod Pieces
+pub mod Grown
+pub mod Lengths
+pub mod Once

@@ -1,0 +1,10 @@
+pub mod Runs
+pub mod Turns
+pub mod Kept
+pub mod LastPart
+pub mod Scanned
+pub mod FieldAgain
+pub mod HeadAgain
+pub mod FieldTakes
+pub mod HeadTakes
+pub mod Parts

@@ -1,0 +1,4 @@
+pub mod Lines
+pub mod Field
+pub mod Head
+pub mod Grammar

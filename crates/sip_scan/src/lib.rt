@@ -1,0 +1,129 @@
+//! The head of a message: its start line and its header fields, as spans of the datagram (RFC 3261, section 7).
+//!
+//! CR and LF bytes in front are skipped. Then comes the start line, then a line for each header field, with the
+//! lines that begin with SP or HTAB continuing the one before, and the head ends with an empty line. Nothing is
+//! unfolded or copied: a field is told by the spans of its name, its value and its whole.
+//!
+//! - [`scan`] reads the whole head. Its faults are tried in the order in which [`ScanFault`] lists them.
+//! - [`start_line`] reads the start line alone, for a caller that judges it before the fields are looked at.
+//!
+//! Nothing here takes memory.
+#![tactic(auto)]
+
+ghost use Rattle.std.specs.Prelude.{◌≡◌, ◌≤◌, ◌<◌, ◌+◌, ◌∷◌, ◌++◌, [], List, ℕ, length, take, IfSome, IfNone, IfOk, Some, None, Ok, Err, All};
+ghost use Rattle.sip_scan.specs.declared.field.HeaderSpan.{HeaderSpan};
+ghost use Rattle.sip_scan.specs.Field.{fields_at, IsField};
+ghost use Rattle.sip_scan.specs.Head.{at_most_128, scanned, LiesIn, LieFrom};
+ghost use Rattle.sip_scan.specs.Grammar.{MessageTree, message, IsMessageTree, head_place};
+
+mod field;
+mod lines;
+#[cfg(test)]
+mod tests;
+
+use arrayvec::ArrayVec;
+use field::field_at;
+pub use field::{HeaderSpan, Kind, full_name, kind_of};
+pub use lines::start_line;
+use lines::{is_crlf, line_end};
+pub use sip_words::Span;
+
+/// The head of a message.
+#[derive(Debug, Drop)]
+pub struct Head {
+    /// The start line, without its CRLF.
+    pub start: Span,
+    /// The header fields, in order.
+    pub fields: ArrayVec<HeaderSpan, 128>,
+    /// Where the body begins, behind the empty line.
+    pub body: usize,
+}
+
+/// Why a datagram has no head. The first fault that holds, in this order, is answered.
+#[derive(Clone, Copy, Debug, PartialEq, Eq)]
+pub enum ScanFault {
+    /// Behind the CR and LF in front there is no CRLF, or neither the first line nor what stands behind its last SP
+    /// begins with `SIP/`, in any case.
+    NotSip,
+    /// There is no empty line; or a NUL, a lone CR or a lone LF stands in the head; or the first field line begins
+    /// with SP or HTAB; or a field isn't a token, SP and HTAB, a colon and a value.
+    BadHeader,
+    /// There are 129 fields or more.
+    TooManyHeaders,
+}
+
+/// The head of the datagram, or the first fault.
+pub fn scan(b: &[u8]) -> Result<Head, ScanFault>
+    // What is read is spelled by the grammar, each span being the place of its part.
+    ensures found { IfOk result (λ h. (t : MessageTree) × IsMessageTree t × (b.now ≡ message t) × (h ≡ head_place t)) }
+    // So is what has too many fields.
+    ensures many { result ≡ Err ScanFault.TooManyHeaders → (t : MessageTree) × IsMessageTree t × (b.now ≡ message t) × (128 < length t.fields) }
+    // What the grammar spells is read, or has too many fields, and nothing else can be.
+    ensures only { (t : MessageTree) → IsMessageTree t → b.now ≡ message t → result ≡ at_most_128 (head_place t) }
+    // The same as a function, with the faults in their order.
+    ensures exact { result ≡ scanned b.now }
+    // The parts stand in order within the datagram.
+    ensures places { IfOk result (LiesIn b.now) }
+{
+    let Some(start) = start_line(b) else {
+        return Err(ScanFault::NotSip);
+    };
+    let Some(end) = line_end(b, start.from) else {
+        return Err(ScanFault::BadHeader);
+    };
+    let Some(fields) = fields_at(b, end + 2) else {
+        return Err(ScanFault::BadHeader);
+    };
+    if 128 < fields.count {
+        return Err(ScanFault::TooManyHeaders);
+    }
+    Ok(Head {
+        start,
+        fields: fields.first,
+        body: fields.end + 2,
+    })
+}
+
+/// The first 128 fields, how many there are, and the place of the empty line.
+#[derive(Drop)]
+struct Fields {
+    first: ArrayVec<HeaderSpan, 128>,
+    count: usize,
+    end: usize,
+}
+
+/// The fields from `from` on.
+fn fields_at(text: &[u8], from: usize) -> Option<Fields>
+    requires { from ≤ length text.now }
+    ensures none { IfNone result (fields_at text.now from ≡ None) }
+    ensures some { IfSome result (λ f. (all : List HeaderSpan) × (fields_at text.now from ≡ Some (all, f.end)) × (f.first.items ≡ take 128 all) × (f.count ≡ length all) × LieFrom from all f.end) }
+    ensures bounds { IfSome result (λ f. (from ≤ f.end) × (f.end + 2 ≤ length text.now)) }
+    ensures each { IfSome result (λ f. All (IsField text.now) f.first.items) }
+{
+    let mut first = ArrayVec::new();
+    let mut count = 0;
+    let mut at = from;
+    while !is_crlf(text, at) {
+        let field = field_at(text, at)?;
+        keep(&mut first, field);
+        count += 1;
+        at = field.whole.to;
+    }
+    Some(Fields {
+        first,
+        count,
+        end: at,
+    })
+}
+
+/// Adds a field where there is room.
+#[tactic(auto, using(crate::proofs::Kept::kept_all, crate::proofs::Kept::kept_full, crate::proofs::Kept::each_push))]
+fn keep(first: &mut ArrayVec<HeaderSpan, 128>, field: HeaderSpan)
+    requires { length first.old.items ≤ 128 }
+    ensures kept { first.new.items ≡ take 128 (first.old.items ++ field ∷ []) }
+    ensures each { (text : List ℕ) → All (IsField text) first.old.items → IsField text field → All (IsField text) first.new.items }
+{
+    if !first.is_full() {
+        first.push(field);
+    }
+}
