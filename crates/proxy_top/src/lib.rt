@@ -15,3 +15,6 @@ mod top;
 mod trace;
 
 pub use top::simulate;
+
+#[cfg(test)]
+mod tests;

@@ -1,0 +1,28 @@
+# `make demo` proves, builds and runs the first example. `make` lists the targets.
+
+.PHONY: help demo test check clean
+
+help:
+	@echo "make demo    prove, build and run the first example, and compare its trace"
+	@echo "make test    the merge gate: every proof, must-fail edit, test and program"
+	@echo "make check   prove every crate over what earlier runs kept"
+	@echo "make clean   forget what earlier runs kept"
+
+demo:
+	@echo "== proving and building sipscript and the crates below it (some minutes the first time)"
+	cd crates/sipscript && rt run -- sim ../../examples/one_options_is_answered.cfg ../../examples/one_options_is_answered.scn > ../../demo.out
+	@echo "== the script"
+	@cat examples/one_options_is_answered.cfg
+	@echo "== what the proxy does"
+	@cat demo.out
+	@cmp demo.out examples/one_options_is_answered.out && echo "== as expected"
+	@rm -f demo.out
+
+test:
+	rt ci
+
+check:
+	rt all check
+
+clean:
+	rm -rf crates/*/out
