@@ -1,11 +1,10 @@
 //! Files of the file system.
 ghost use Rattle.std.specs.Prelude.{◌≤◌, IfOk, vec_len};
 
+use outside_ports::{FileFault, Files};
 use std::alloc::Global;
 use std::fs;
 use std::io::Read;
-
-use outside_ports::{FileFault, Files};
 
 /// The files of the file system, by path. It tells nothing of what they hold.
 pub struct Disk<'a, R> {

@@ -4,13 +4,11 @@
 mod disk;
 mod terminal;
 
-use std::env;
-use std::process::ExitCode;
-
-use proxy_top::simulate;
-
 use crate::disk::Disk;
 use crate::terminal::Terminal;
+use proxy_top::simulate;
+use std::env;
+use std::process::ExitCode;
 
 /// The words of the command line, without the program's name.
 fn words(rt: &HostRuntime) -> std::io::Result<Vec<String>> {

@@ -1,8 +1,7 @@
 //! Standard output.
 
-use std::io::Write;
-
 use outside_ports::{Console, PrintEnd};
+use std::io::Write;
 
 /// Standard output. It tells nothing of what was printed, and never answers `NoMemory`.
 pub struct Terminal<'a, R> {
