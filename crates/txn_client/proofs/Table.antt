@@ -10,7 +10,7 @@ use Rattle.txn_client.specs.declared.machine.ClientTimer.TheVariants.{Retry, Lim
 use Rattle.txn_client.specs.declared.machine.ClientTimer.{ClientTimer}
 use Rattle.txn_client.specs.Rows
 use Rattle.txn_client.specs.Rows.{ClientRow, NoClientRow, ClientStep, Invite, Other, silent}
-use Rattle.txn_client.specs.After.{if_armed, made_at, client_after}
+use Rattle.txn_client.specs.After.{if_armed, made_at, client_after, Makes}
 
 -- what the row for the client's kind and state makes
 at : (i : Bool) (s : ClientState) (event : ClientEvent) (old : Client) (now : ℕ) (made : Option (Client × ClientActs)) →
@@ -89,126 +89,44 @@ module _ (old : Client) (now : ℕ) where
   made_row false Completed (Timer Linger) made hi hs e = let w = when_armed _ _ _ e in by_equation _ _ _ w.1 (Rows.completed_k (hi, hs) w.0)
   made_row i s event made hi hs e = cc
 
--- where the function gives nothing there is no row, and so nothing happens
-pub none_made : (old : Client) (event : ClientEvent) (now : ℕ) → made_at old.invite old.state event old now ≡ None → ClientStep old event now old silent
-none_made old event now none =
-    inr ((λ new acts row. let made : made_at old.invite old.state event old now ≡ Some (new, acts) = row_made old now event new acts row in cc), refl, refl)
+pair_is : (made : Client × ClientActs) (new : Client) (acts : ClientActs) → (new ≡ made.0) × (acts ≡ made.1) → made ≡ (new, acts)
+pair_is (client, done) new acts is = cc
 
--- the table as rows and the table as a function make the same step
-after_of : (old : Client) (event : ClientEvent) (now : ℕ) (new : Client) (acts : ClientActs) (m : Option (Client × ClientActs)) →
-    made_at old.invite old.state event old now ≡ m → ClientStep old event now new acts → unwrap_or m (old, silent) ≡ (new, acts)
-after_of old event now new acts m e (inl row) =
-    let made : made_at old.invite old.state event old now ≡ Some (new, acts) = row_made old now event new acts row in
-    let same : m ≡ Some (new, acts) = cc in ap (λ x. unwrap_or x (old, silent)) same
-after_of old event now new acts None e (inr (none, n, a)) = cc
-after_of old event now new acts (Some made) e (inr (none, n, a)) = absurd (none made.0 made.1 (made_row old now old.invite old.state event made refl refl e))
-
-pub step_after : (old : Client) (event : ClientEvent) (now : ℕ) (new : Client) (acts : ClientActs) →
-    ClientStep old event now new acts → client_after old event now ≡ (new, acts)
-step_after old event now new acts step = after_of old event now new acts _ refl step
-
-of_after : (old : Client) (event : ClientEvent) (now : ℕ) (new : Client) (acts : ClientActs) (m : Option (Client × ClientActs)) →
-    made_at old.invite old.state event old now ≡ m → unwrap_or m (old, silent) ≡ (new, acts) → ClientStep old event now new acts
-of_after old event now new acts None e is =
-    let P : Client × ClientActs → Type 0 = λ x. ClientStep old event now x.0 x.1 in subst P is (none_made old event now e)
-of_after old event now new acts (Some made) e is =
-    let P : Client × ClientActs → Type 0 = λ x. ClientStep old event now x.0 x.1 in
-    subst P is (inl (made_row old now old.invite old.state event made refl refl e))
-
-pub after_step : (old : Client) (event : ClientEvent) (now : ℕ) (new : Client) (acts : ClientActs) →
-    client_after old event now ≡ (new, acts) → ClientStep old event now new acts
-after_step old event now new acts is = of_after old event now new acts _ refl is
+pair_parts : (made : Client × ClientActs) (new : Client) (acts : ClientActs) → made ≡ (new, acts) → (new ≡ made.0) × (acts ≡ made.1)
+pair_parts made new acts is = (sym (ap (λ (m : Client × ClientActs). m.0) is), sym (ap (λ (m : Client × ClientActs). m.1) is))
 
 module _ (old : Client) (now : ℕ) where
-  -- a row makes a step
-  pub by_row : (event : ClientEvent) (new : Client) (acts : ClientActs) (event' : ClientEvent) (new' : Client) (acts' : ClientActs) →
-      ClientRow old now event' new' acts' → event ≡ event' → new ≡ new' → acts ≡ acts' → ClientStep old event now new acts
-  by_row event new acts event' new' acts' row e n a =
-      subst (λ x. ClientStep old x now new acts) (sym e)
-      (subst (λ x. ClientStep old event' now x acts) (sym n)
-      (subst (λ x. ClientStep old event' now new' x) (sym a) (inl row)))
+  -- what the function makes is a step
+  makes : (event : ClientEvent) (new : Client) (acts : ClientActs) (m : Option (Client × ClientActs)) → made_at old.invite old.state event old now ≡ m →
+      Makes m old new acts → ClientStep old event now new acts
+  makes event new acts None e is =
+      inr ((λ new acts row. let made : made_at old.invite old.state event old now ≡ Some (new, acts) = row_made old now event new acts row in cc), is.0, is.1)
+  makes event new acts (Some made) e is =
+      inl (by_equation old now event made (new, acts) (pair_is made new acts is) (made_row old now old.invite old.state event made refl refl e))
 
-  -- where the kind, the state and the event have no row nothing happens
-  pub by_none : (i : Bool) (s : ClientState) (event event' : ClientEvent) → old.invite ≡ i → old.state ≡ s → event' ≡ event →
-      made_at i s event old now ≡ None → ClientStep old event' now old silent
-  by_none i s event event' hi hs he none =
-      subst (λ x. ClientStep old x now old silent) (sym he) (none_made old event now (at i s event old now None (hi, hs) none))
+  pub makes_step : (event : ClientEvent) (new : Client) (acts : ClientActs) →
+      Makes (made_at old.invite old.state event old now) old new acts → ClientStep old event now new acts
+  makes_step event new acts is = makes event new acts _ refl is
 
-  -- the events that have no row, state by state
-  pub proceeding_rest : (i : Bool) (event : ClientEvent) → (event ≡ Provisional → ⊥) → (event ≡ Success → ⊥) → (event ≡ Failure → ⊥) →
-      ((timer : ClientTimer) → event ≡ Timer timer → ⊥) → made_at i Proceeding event old now ≡ None
-  proceeding_rest true Start p s f t = refl
-  proceeding_rest false Start p s f t = refl
-  proceeding_rest i Provisional p s f t = absurd (p refl)
-  proceeding_rest i Success p s f t = absurd (s refl)
-  proceeding_rest i Failure p s f t = absurd (f refl)
-  proceeding_rest i (Timer timer) p s f t = absurd (t timer refl)
+  pub makes_at : (event event' : ClientEvent) (new : Client) (acts : ClientActs) → event ≡ event' →
+      Makes (made_at old.invite old.state event' old now) old new acts → ClientStep old event now new acts
+  makes_at event event' new acts e is = subst (λ x. ClientStep old x now new acts) (sym e) (makes_step event' new acts is)
 
-  pub completed_rest : (event : ClientEvent) → (event ≡ Failure → ⊥) → ((timer : ClientTimer) → event ≡ Timer timer → ⊥) →
-      made_at true Completed event old now ≡ None
-  completed_rest Start f t = refl
-  completed_rest Provisional f t = refl
-  completed_rest Success f t = refl
-  completed_rest Failure f t = absurd (f refl)
-  completed_rest (Timer timer) f t = absurd (t timer refl)
+  -- a step is what the function makes
+  after_of : (event : ClientEvent) (new : Client) (acts : ClientActs) (m : Option (Client × ClientActs)) →
+      made_at old.invite old.state event old now ≡ m → ClientStep old event now new acts → unwrap_or m (old, silent) ≡ (new, acts)
+  after_of event new acts m e (inl row) =
+      let made : made_at old.invite old.state event old now ≡ Some (new, acts) = row_made old now event new acts row in
+      let same : m ≡ Some (new, acts) = cc in ap (λ x. unwrap_or x (old, silent)) same
+  after_of event new acts None e (inr (none, n, a)) = cc
+  after_of event new acts (Some made) e (inr (none, n, a)) = absurd (none made.0 made.1 (made_row old now old.invite old.state event made refl refl e))
 
-  pub accepted_rest : (event : ClientEvent) → (event ≡ Success → ⊥) → ((timer : ClientTimer) → event ≡ Timer timer → ⊥) →
-      made_at true Accepted event old now ≡ None
-  accepted_rest Start s t = refl
-  accepted_rest Provisional s t = refl
-  accepted_rest Success s t = absurd (s refl)
-  accepted_rest Failure s t = refl
-  accepted_rest (Timer timer) s t = absurd (t timer refl)
+  pub step_after : (event : ClientEvent) (new : Client) (acts : ClientActs) → ClientStep old event now new acts → client_after old event now ≡ (new, acts)
+  step_after event new acts step = after_of event new acts _ refl step
 
-  pub invite_rest : (state : ClientState) (event : ClientEvent) → (state ≡ Calling → ⊥) → (state ≡ Proceeding → ⊥) →
-      (state ≡ Accepted → ⊥) → (state ≡ Completed → ⊥) → made_at true state event old now ≡ None
-  invite_rest Calling event c p a d = absurd (c refl)
-  invite_rest Trying event c p a d = refl
-  invite_rest Proceeding event c p a d = absurd (p refl)
-  invite_rest Accepted event c p a d = absurd (a refl)
-  invite_rest Completed event c p a d = absurd (d refl)
-  invite_rest Terminated event c p a d = refl
+  of_after : (new : Client) (acts : ClientActs) (m : Option (Client × ClientActs)) → unwrap_or m (old, silent) ≡ (new, acts) → Makes m old new acts
+  of_after new acts None is = pair_parts (old, silent) new acts is
+  of_after new acts (Some made) is = pair_parts made new acts is
 
-  pub other_rest : (state : ClientState) (event : ClientEvent) → (state ≡ Trying → ⊥) → (state ≡ Proceeding → ⊥) →
-      ((timer : ClientTimer) → event ≡ Timer timer → ⊥) → made_at false state event old now ≡ None
-  other_rest Calling event y p t = refl
-  other_rest Trying event y p t = absurd (y refl)
-  other_rest Proceeding event y p t = absurd (p refl)
-  other_rest Accepted event y p t = refl
-  other_rest Completed Start y p t = refl
-  other_rest Completed Provisional y p t = refl
-  other_rest Completed Success y p t = refl
-  other_rest Completed Failure y p t = refl
-  other_rest Completed (Timer timer) y p t = absurd (t timer refl)
-  other_rest Terminated event y p t = refl
-
-  -- the timers that have no row
-  pub invite_timer_rest : (state : ClientState) (timer : ClientTimer) → (state ≡ Calling → ⊥) → (state ≡ Accepted → ⊥) → (state ≡ Completed → ⊥) →
-      made_at true state (Timer timer) old now ≡ None
-  invite_timer_rest Calling timer c a d = absurd (c refl)
-  invite_timer_rest Trying timer c a d = refl
-  invite_timer_rest Proceeding timer c a d = refl
-  invite_timer_rest Accepted timer c a d = absurd (a refl)
-  invite_timer_rest Completed timer c a d = absurd (d refl)
-  invite_timer_rest Terminated timer c a d = refl
-
-  pub other_timer_rest : (state : ClientState) (timer : ClientTimer) → (state ≡ Trying → ⊥) → (state ≡ Proceeding → ⊥) → (state ≡ Completed → ⊥) →
-      made_at false state (Timer timer) old now ≡ None
-  other_timer_rest Calling timer y p d = refl
-  other_timer_rest Trying timer y p d = absurd (y refl)
-  other_timer_rest Proceeding timer y p d = absurd (p refl)
-  other_timer_rest Accepted timer y p d = refl
-  other_timer_rest Completed timer y p d = absurd (d refl)
-  other_timer_rest Terminated timer y p d = refl
-
-  pub not_linger : (i : Bool) (timer : ClientTimer) → (timer ≡ Linger → ⊥) → made_at i Completed (Timer timer) old now ≡ None
-  not_linger true Retry l = refl
-  not_linger true Limit l = refl
-  not_linger false Retry l = refl
-  not_linger false Limit l = refl
-  not_linger i Linger l = absurd (l refl)
-
-  pub accepted_not_linger : (timer : ClientTimer) → (timer ≡ Linger → ⊥) → made_at true Accepted (Timer timer) old now ≡ None
-  accepted_not_linger Retry l = refl
-  accepted_not_linger Limit l = refl
-  accepted_not_linger Linger l = absurd (l refl)
+  pub after_step : (event : ClientEvent) (new : Client) (acts : ClientActs) → client_after old event now ≡ (new, acts) → ClientStep old event now new acts
+  after_step event new acts is = makes_step event new acts (of_after new acts _ is)

@@ -1,5 +1,5 @@
 -- The table of `Rows` as a function, for definitions that go on from a step. That it is that table is a law of this crate.
-use Rattle.std.specs.Prelude.{ℕ, ◌*◌, Bool, true, false, Option, Some, None, unwrap_or}
+use Rattle.std.specs.Prelude.{◌≡◌, ℕ, ◌*◌, Bool, true, false, Option, Some, None, unwrap_or}
 use Rattle.txn_moments.specs.Moments.{t1, t2, t4, moment_after, doubled, doubled_up_to_t2}
 use Rattle.txn_client.specs.declared.machine.Client.{Client}
 use Rattle.txn_client.specs.declared.machine.ClientActs.{ClientActs}
@@ -53,3 +53,8 @@ made_at invite state event c now = None
 -- the client after an event, and what is done
 abbrev pub client_after : Client → ClientEvent → ℕ → Client × ClientActs
 client_after c event now = unwrap_or (made_at c.invite c.state event c now) (c, silent)
+
+-- the client and the acts after an event are these: what the row makes, or nothing where there is none
+abbrev pub Makes : Option (Client × ClientActs) → Client → Client → ClientActs → Type 0
+Makes None old new acts = (new ≡ old) × (acts ≡ silent)
+Makes (Some made) old new acts = (new ≡ made.0) × (acts ≡ made.1)

@@ -1,4 +1,3 @@
 pub mod Rows
-pub mod Timers
 pub mod After
 pub mod Runs

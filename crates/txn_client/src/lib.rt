@@ -8,6 +8,8 @@
 mod laws;
 mod machine;
 mod step;
+#[cfg(test)]
+mod tests;
 
 pub use laws::{
     each_event_makes_one_step, invite_is_sent_only_in_calling, nothing_after_terminated,

@@ -1,11 +1,10 @@
 //! One step of a client transaction.
 
-ghost use Rattle.std.specs.Prelude.{◌≡◌, ◌≢◌, ◌*◌, ◌↔◌, Some, true, false, IsTrue, IsSome};
-ghost use Rattle.txn_client.specs.Rows.{ClientStep, retrying, answered, over, silent, sends, passes_up, reports_timeout};
-ghost use Rattle.txn_client.specs.Timers.{due_of};
-ghost use Rattle.txn_client.specs.declared.machine.ClientTimer.{ClientTimer};
-ghost use Rattle.txn_moments.specs.Moments.{t1, moment_after};
+ghost use Rattle.std.specs.Prelude.{◌≡◌, ℕ};
+ghost use Rattle.txn_client.specs.Rows.{ClientStep, retrying, answered, over, sends, passes_up};
+ghost use Rattle.txn_client.specs.After.{Makes, lingering, made_at};
 
+use crate::machine::ClientState::{Accepted, Calling, Completed, Proceeding, Terminated, Trying};
 use crate::machine::{Client, ClientActs, ClientEvent, ClientState, ClientTimer};
 use txn_moments::{T1, T2, T4, after, twice, twice_up_to_t2};
 
@@ -18,105 +17,11 @@ pub fn client_step(c: &mut Client, event: ClientEvent, now: u64) -> ClientActs
     ensures { ClientStep c.old event now c.new result }
 {
     match event {
-        ClientEvent::Timer(timer) => timer_step(c, timer, now),
-        _ if c.invite => invite_step(c, event, now),
-        _ => other_step(c, event, now),
-    }
-}
-
-/// The rows of the timers. One that isn't armed isn't due.
-fn timer_step(c: &mut Client, timer: ClientTimer, now: u64) -> ClientActs
-    ensures { ClientStep c.old (ClientEvent.Timer timer) now c.new result }
-{
-    if !c.is_armed(timer) {
-        ClientActs::SILENT
-    } else if c.invite {
-        invite_timer(c, timer, now)
-    } else {
-        other_timer(c, timer, now)
-    }
-}
-
-/// The rows of an INVITE, its timers aside.
-fn invite_step(c: &mut Client, event: ClientEvent, now: u64) -> ClientActs
-    requires invite { c.old.invite ≡ true }
-    requires no_timer { (timer : ClientTimer) → event ≢ ClientEvent.Timer timer }
-    ensures { ClientStep c.old event now c.new result }
-{
-    match (c.state, event) {
-        (ClientState::Calling, ClientEvent::Start) => c.start(now),
-        (ClientState::Calling | ClientState::Proceeding, ClientEvent::Provisional) => {
-            c.stop_waiting();
-            c.state = ClientState::Proceeding;
-            ClientActs::PASSED_UP
-        }
-        (ClientState::Calling | ClientState::Proceeding, ClientEvent::Success) => {
-            c.take_final(ClientState::Accepted, after(now, 64 * T1))
-        }
-        (ClientState::Calling | ClientState::Proceeding, ClientEvent::Failure) => {
-            ClientActs {
-                ack: true,
-                ..c.take_final(ClientState::Completed, after(now, TIMER_D))
-            }
-        }
-        (ClientState::Completed, ClientEvent::Failure) => ClientActs {
-            ack: true,
-            ..ClientActs::SILENT
-        },
-        (ClientState::Accepted, ClientEvent::Success) => ClientActs::PASSED_UP,
-        _ => ClientActs::SILENT,
-    }
-}
-
-/// The rows of an INVITE's timers.
-fn invite_timer(c: &mut Client, timer: ClientTimer, now: u64) -> ClientActs
-    requires invite { c.old.invite ≡ true }
-    requires armed { IsSome (due_of c.old timer) }
-    ensures { ClientStep c.old (ClientEvent.Timer timer) now c.new result }
-{
-    match (c.state, timer) {
-        (ClientState::Calling, ClientTimer::Retry) => c.send_again(now, twice(c.interval)),
-        (ClientState::Calling, ClientTimer::Limit) => c.time_out(),
-        (ClientState::Completed, ClientTimer::Linger) => c.end(),
-        (ClientState::Accepted, ClientTimer::Linger) => c.end(),
-        _ => ClientActs::SILENT,
-    }
-}
-
-/// The rows of any other request, its timers aside.
-fn other_step(c: &mut Client, event: ClientEvent, now: u64) -> ClientActs
-    requires other { c.old.invite ≡ false }
-    requires no_timer { (timer : ClientTimer) → event ≢ ClientEvent.Timer timer }
-    ensures { ClientStep c.old event now c.new result }
-{
-    match (c.state, event) {
-        (ClientState::Trying, ClientEvent::Start) => c.start(now),
-        (ClientState::Trying | ClientState::Proceeding, ClientEvent::Provisional) => {
-            c.state = ClientState::Proceeding;
-            ClientActs::PASSED_UP
-        }
-        (ClientState::Trying | ClientState::Proceeding, ClientEvent::Success) => {
-            c.take_final(ClientState::Completed, after(now, T4))
-        }
-        (ClientState::Trying | ClientState::Proceeding, ClientEvent::Failure) => {
-            c.take_final(ClientState::Completed, after(now, T4))
-        }
-        _ => ClientActs::SILENT,
-    }
-}
-
-/// The rows of another request's timers.
-fn other_timer(c: &mut Client, timer: ClientTimer, now: u64) -> ClientActs
-    requires other { c.old.invite ≡ false }
-    requires armed { IsSome (due_of c.old timer) }
-    ensures { ClientStep c.old (ClientEvent.Timer timer) now c.new result }
-{
-    match (c.state, timer) {
-        (ClientState::Trying, ClientTimer::Retry) => c.send_again(now, twice_up_to_t2(c.interval)),
-        (ClientState::Proceeding, ClientTimer::Retry) => c.send_again(now, T2),
-        (ClientState::Trying | ClientState::Proceeding, ClientTimer::Limit) => c.time_out(),
-        (ClientState::Completed, ClientTimer::Linger) => c.end(),
-        _ => ClientActs::SILENT,
+        ClientEvent::Start => c.started(now),
+        ClientEvent::Provisional => c.got_provisional(),
+        ClientEvent::Success => c.got_success(now),
+        ClientEvent::Failure => c.got_failure(now),
+        ClientEvent::Timer(timer) => c.fired(timer, now),
     }
 }
 
@@ -135,6 +40,18 @@ impl ClientActs {
         ..ClientActs::SILENT
     };
 
+    /// An ACK is to be sent.
+    const ACKED: ClientActs = ClientActs {
+        ack: true,
+        ..ClientActs::SILENT
+    };
+
+    /// The timeout is to be reported.
+    const TIMED_OUT: ClientActs = ClientActs {
+        timeout: true,
+        ..ClientActs::SILENT
+    };
+
     /// The answer is to be passed up.
     const PASSED_UP: ClientActs = ClientActs {
         up: true,
@@ -143,24 +60,124 @@ impl ClientActs {
 }
 
 impl Client {
-    /// Whether this timer is armed.
-    fn is_armed(&self, timer: ClientTimer) -> bool
-        ensures { IsTrue result ↔ IsSome (due_of self.now timer) }
+    /// The request is handed in.
+    fn started(&mut self, now: u64) -> ClientActs
+        ensures { Makes (made_at self.old.invite self.old.state ClientEvent.Start self.old now) self.old self.new result }
     {
-        match timer {
-            ClientTimer::Retry => self.retry.is_some(),
-            ClientTimer::Limit => self.limit.is_some(),
-            ClientTimer::Linger => self.linger.is_some(),
+        match (self.invite, self.state) {
+            (true, Calling) | (false, Trying) => {
+                self.limit = Some(after(now, 64 * T1));
+                self.send_again(now, T1)
+            }
+            _ => ClientActs::SILENT,
         }
     }
 
-    /// The request is sent for the first time.
-    fn start(&mut self, now: u64) -> ClientActs
-        ensures client { self.new ≡ record (retrying self.old now t1) { limit = Some (moment_after now (64 * t1)) } }
-        ensures acts { result ≡ sends }
+    /// A 1xx came.
+    fn got_provisional(&mut self) -> ClientActs
+        ensures { (now : ℕ) →
+            Makes (made_at self.old.invite self.old.state ClientEvent.Provisional self.old now) self.old self.new result }
     {
-        self.limit = Some(after(now, 64 * T1));
-        self.send_again(now, T1)
+        match (self.invite, self.state) {
+            (true, Calling | Proceeding) => {
+                self.stop_waiting();
+                self.state = Proceeding;
+                ClientActs::PASSED_UP
+            }
+            (false, Trying | Proceeding) => {
+                self.state = Proceeding;
+                ClientActs::PASSED_UP
+            }
+            _ => ClientActs::SILENT,
+        }
+    }
+
+    /// A 2xx came.
+    fn got_success(&mut self, now: u64) -> ClientActs
+        ensures { Makes (made_at self.old.invite self.old.state ClientEvent.Success self.old now) self.old self.new result }
+    {
+        match (self.invite, self.state) {
+            (true, Calling | Proceeding) => self.take_final(Accepted, after(now, 64 * T1)),
+            (true, Accepted) => ClientActs::PASSED_UP,
+            (false, Trying | Proceeding) => self.take_final(Completed, after(now, T4)),
+            _ => ClientActs::SILENT,
+        }
+    }
+
+    /// A 300 to 699 came.
+    fn got_failure(&mut self, now: u64) -> ClientActs
+        ensures { Makes (made_at self.old.invite self.old.state ClientEvent.Failure self.old now) self.old self.new result }
+    {
+        match (self.invite, self.state) {
+            (true, Calling | Proceeding) => {
+                let up = self.take_final(Completed, after(now, TIMER_D));
+                ClientActs { ack: true, ..up }
+            }
+            (true, Completed) => ClientActs::ACKED,
+            (false, Trying | Proceeding) => self.take_final(Completed, after(now, T4)),
+            _ => ClientActs::SILENT,
+        }
+    }
+
+    /// A timer is due, if it is armed.
+    fn fired(&mut self, timer: ClientTimer, now: u64) -> ClientActs
+        ensures { Makes (made_at self.old.invite self.old.state (ClientEvent.Timer timer) self.old now) self.old self.new result }
+    {
+        match timer {
+            ClientTimer::Retry => self.retry_fired(now),
+            ClientTimer::Limit => self.limit_fired(),
+            ClientTimer::Linger => self.linger_fired(),
+        }
+    }
+
+    /// Timer A or E is due, if it is armed.
+    fn retry_fired(&mut self, now: u64) -> ClientActs
+        ensures { Makes (made_at self.old.invite self.old.state (ClientEvent.Timer ClientTimer.Retry) self.old now)
+            self.old self.new result }
+    {
+        if self.retry.is_none() {
+            return ClientActs::SILENT;
+        }
+        match (self.invite, self.state) {
+            (true, Calling) => self.send_again(now, twice(self.interval)),
+            (false, Trying) => self.send_again(now, twice_up_to_t2(self.interval)),
+            (false, Proceeding) => self.send_again(now, T2),
+            _ => ClientActs::SILENT,
+        }
+    }
+
+    /// Timer B or F is due, if it is armed: no answer came in time.
+    fn limit_fired(&mut self) -> ClientActs
+        ensures { (now : ℕ) →
+            Makes (made_at self.old.invite self.old.state (ClientEvent.Timer ClientTimer.Limit) self.old now)
+            self.old self.new result }
+    {
+        if self.limit.is_none() {
+            return ClientActs::SILENT;
+        }
+        match (self.invite, self.state) {
+            (true, Calling) | (false, Trying | Proceeding) => {
+                self.end();
+                ClientActs::TIMED_OUT
+            }
+            _ => ClientActs::SILENT,
+        }
+    }
+
+    /// Timer D, K or M is due, if it is armed: the transaction is over.
+    fn linger_fired(&mut self) -> ClientActs
+        ensures { (now : ℕ) →
+            Makes (made_at self.old.invite self.old.state (ClientEvent.Timer ClientTimer.Linger) self.old now)
+            self.old self.new result }
+    {
+        if self.linger.is_none() {
+            return ClientActs::SILENT;
+        }
+        match (self.invite, self.state) {
+            (_, Completed) | (true, Accepted) => self.end(),
+            _ => {}
+        }
+        ClientActs::SILENT
     }
 
     /// The request is sent, and again after `interval` milliseconds.
@@ -183,7 +200,7 @@ impl Client {
 
     /// A final answer came: it is passed up, and `state` absorbs its repeats until `due`.
     fn take_final(&mut self, state: ClientState, due: u64) -> ClientActs
-        ensures client { self.new ≡ record (answered self.old) { state = state; linger = Some due } }
+        ensures client { self.new ≡ lingering self.old state due }
         ensures acts { result ≡ passes_up }
     {
         self.stop_waiting();
@@ -192,26 +209,12 @@ impl Client {
         ClientActs::PASSED_UP
     }
 
-    /// No answer came in time.
-    fn time_out(&mut self) -> ClientActs
-        ensures client { self.new ≡ over self.old }
-        ensures acts { result ≡ reports_timeout }
-    {
-        self.end();
-        ClientActs {
-            timeout: true,
-            ..ClientActs::SILENT
-        }
-    }
-
     /// The transaction is over.
-    fn end(&mut self) -> ClientActs
-        ensures client { self.new ≡ over self.old }
-        ensures acts { result ≡ silent }
+    fn end(&mut self)
+        ensures { self.new ≡ over self.old }
     {
         self.stop_waiting();
         self.linger = None;
-        self.state = ClientState::Terminated;
-        ClientActs::SILENT
+        self.state = Terminated;
     }
 }

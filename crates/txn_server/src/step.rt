@@ -6,6 +6,7 @@ ghost use Rattle.txn_server.specs.Rows.{ServerStep, answering, retrying, over, s
 ghost use Rattle.txn_server.specs.Timers.{due_of};
 ghost use Rattle.txn_server.specs.After.{Makes, ending, class_of, sent_at, copied_at, acked_at, fired_at};
 
+use crate::machine::ServerState::{Accepted, Completed, Confirmed, Proceeding, Terminated, Trying};
 use crate::machine::{AnswerClass, Server, ServerActs, ServerEvent, ServerState, ServerTimer};
 use txn_moments::{T1, T4, after, twice_up_to_t2};
 
@@ -50,6 +51,12 @@ impl ServerActs {
         ..ServerActs::SILENT
     };
 
+    /// The ACK is to be handed on.
+    const LOOSE_ACK: ServerActs = ServerActs {
+        loose_ack: true,
+        ..ServerActs::SILENT
+    };
+
     /// The kept answer is to be sent again.
     const REPEATED: ServerActs = ServerActs {
         repeat: true,
@@ -63,11 +70,11 @@ impl Server {
         ensures { Makes (copied_at self.old.invite self.old.state self.old) self.old self.new result }
     {
         match (self.invite, self.state) {
-            (true, ServerState::Proceeding) => ServerActs {
+            (true, Proceeding) => ServerActs {
                 repeat: self.answered,
                 ..ServerActs::SILENT
             },
-            (false, ServerState::Proceeding) | (_, ServerState::Completed) => ServerActs::REPEATED,
+            (false, Proceeding) | (_, Completed) => ServerActs::REPEATED,
             _ => ServerActs::SILENT,
         }
     }
@@ -77,16 +84,13 @@ impl Server {
         ensures { Makes (acked_at self.old.invite self.old.state self.old now) self.old self.new result }
     {
         match (self.invite, self.state) {
-            (true, ServerState::Completed) => {
-                self.state = ServerState::Confirmed;
+            (true, Completed) => {
+                self.state = Confirmed;
                 self.retry = None;
                 self.end = Some(after(now, T4));
                 ServerActs::SILENT
             }
-            (true, ServerState::Accepted) => ServerActs {
-                loose_ack: true,
-                ..ServerActs::SILENT
-            },
+            (true, Accepted) => ServerActs::LOOSE_ACK,
             _ => ServerActs::SILENT,
         }
     }
@@ -108,22 +112,14 @@ impl Server {
         ensures { Makes (sent_at self.old.invite self.old.state class self.old now) self.old self.new result }
     {
         match (self.state, class) {
-            (ServerState::Proceeding, AnswerClass::Provisional) => self.answer(
-                ServerState::Proceeding,
-            ),
-            (ServerState::Proceeding, AnswerClass::Success) => self.close(
-                ServerState::Accepted,
-                now,
-            ),
-            (ServerState::Proceeding, AnswerClass::Failure) => {
+            (Proceeding, AnswerClass::Provisional) => self.answer(Proceeding),
+            (Proceeding, AnswerClass::Success) => self.close(Accepted, now),
+            (Proceeding, AnswerClass::Failure) => {
                 self.repeat_in(now, T1);
-                self.close(ServerState::Completed, now)
+                self.close(Completed, now)
             }
-            (
-                ServerState::Completed | ServerState::Confirmed | ServerState::Terminated,
-                AnswerClass::Success,
-            ) => { ServerActs::SENT }
-            (ServerState::Accepted, AnswerClass::Success) => ServerActs::SENT,
+            (Completed | Confirmed | Terminated, AnswerClass::Success) => ServerActs::SENT,
+            (Accepted, AnswerClass::Success) => ServerActs::SENT,
             _ => ServerActs::SILENT,
         }
     }
@@ -134,12 +130,10 @@ impl Server {
         ensures { Makes (sent_at self.old.invite self.old.state class self.old now) self.old self.new result }
     {
         match (self.state, class) {
-            (ServerState::Trying | ServerState::Proceeding, AnswerClass::Provisional) =>
-                self.answer(ServerState::Proceeding),
-            (
-                ServerState::Trying | ServerState::Proceeding,
-                AnswerClass::Success | AnswerClass::Failure,
-            ) => { self.close(ServerState::Completed, now) }
+            (Trying | Proceeding, AnswerClass::Provisional) => self.answer(Proceeding),
+            (Trying | Proceeding, AnswerClass::Success | AnswerClass::Failure) => {
+                self.close(Completed, now)
+            }
             _ => ServerActs::SILENT,
         }
     }
@@ -159,7 +153,7 @@ impl Server {
         ensures { Makes (fired_at self.old.invite self.old.state ServerTimer.Retry self.old now) self.old self.new result }
     {
         match (self.invite, self.state) {
-            (true, ServerState::Completed) if self.retry.is_some() => {
+            (true, Completed) if self.retry.is_some() => {
                 self.repeat_in(now, twice_up_to_t2(self.interval));
                 ServerActs::REPEATED
             }
@@ -172,12 +166,12 @@ impl Server {
         ensures { (now : ℕ) → Makes (fired_at self.old.invite self.old.state ServerTimer.End self.old now) self.old self.new result }
     {
         let ends = match self.state {
-            ServerState::Completed => true,
-            ServerState::Accepted | ServerState::Confirmed => self.invite,
+            Completed => true,
+            Accepted | Confirmed => self.invite,
             _ => false,
         };
         if ends && self.end.is_some() {
-            self.state = ServerState::Terminated;
+            self.state = Terminated;
             self.retry = None;
             self.end = None;
         }

@@ -6,4 +6,4 @@ pub returns-clause-one_row : goal.returns-clause-one_row
 returns-clause-one_row c = one_row
 
 pub returns-clause-one_step : goal.returns-clause-one_step
-returns-clause-one_step c = λ old now event new acts. (step_after old event now new acts, after_step old event now new acts)
+returns-clause-one_step c = λ old now event new acts. (step_after old now event new acts, after_step old now event new acts)
