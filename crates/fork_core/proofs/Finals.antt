@@ -37,6 +37,7 @@ first_not_none n _ a (here _ later is final) none = none.0 is final
 first_not_none n _ a (after x later _ not first) none = first_not_none n later a first none.1
 
 pub first_unique : (n : ℕ) (xs : List Answer) (a b : Answer) → FirstFinal n xs a → FirstFinal n xs b → a ≡ b
+first_unique n [] a b first _ = elim first [ ]
 first_unique n (x ∷ xs) a b (here _ _ is final) (here _ _ is' final') = refl
 first_unique n (x ∷ xs) a b (here _ _ is final) (after _ _ _ not first) = absurd (not is final)
 first_unique n (x ∷ xs) a b (after _ _ _ not first) (here _ _ is final) = absurd (not is final)

@@ -1,10 +1,9 @@
 -- What the table says of steps and runs.
-use Rattle.std.proofs.Common.{◌≡◌, ℕ, ◌⊎◌, inl, inr, Bool, true, false, Option, Some, None, List, [], ◌∷◌, ◌++◌, refl, sym, ◌∙◌, ap, subst}
+use Rattle.std.proofs.Common.{◌≡◌, ℕ, ◌⊎◌, inl, inr, Bool, true, false, Some, None, List, [], ◌∷◌, ◌++◌, refl, sym, ◌∙◌, ap, subst}
 use Rattle.std.specs.List.{AllByRecursion}
 use Rattle.txn_client.specs.declared.machine.Client.{Client}
 use Rattle.txn_client.specs.declared.machine.ClientActs.{ClientActs}
 use Rattle.txn_client.specs.declared.machine.ClientEvent.{ClientEvent}
-use Rattle.txn_client.specs.declared.machine.ClientEvent.TheVariants.{Start, Provisional, Success, Failure, Timer}
 use Rattle.txn_client.specs.declared.machine.ClientState.{ClientState}
 use Rattle.txn_client.specs.declared.machine.ClientState.TheVariants.{Calling, Trying, Proceeding, Accepted, Completed, Terminated}
 use Rattle.txn_client.specs.Rows

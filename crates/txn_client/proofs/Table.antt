@@ -1,13 +1,12 @@
 -- The table as rows and the table as a function are one.
-use Rattle.std.proofs.Common.{◌≡◌, ℕ, ◌⊎◌, inl, inr, Bool, true, false, Option, Some, None, IsSome, unwrap_or, refl, sym, ◌∙◌, ap, subst}
+use Rattle.std.proofs.Common.{◌≡◌, ℕ, ◌⊎◌, inl, inr, Bool, true, false, Option, Some, None, IsSome, unwrap_or, refl, sym, ap, subst}
 use Rattle.txn_client.specs.declared.machine.Client.{Client}
 use Rattle.txn_client.specs.declared.machine.ClientActs.{ClientActs}
 use Rattle.txn_client.specs.declared.machine.ClientEvent.{ClientEvent}
 use Rattle.txn_client.specs.declared.machine.ClientEvent.TheVariants.{Start, Provisional, Success, Failure, Timer}
 use Rattle.txn_client.specs.declared.machine.ClientState.{ClientState}
-use Rattle.txn_client.specs.declared.machine.ClientState.TheVariants.{Calling, Trying, Proceeding, Accepted, Completed, Terminated}
+use Rattle.txn_client.specs.declared.machine.ClientState.TheVariants.{Calling, Trying, Proceeding, Accepted, Completed}
 use Rattle.txn_client.specs.declared.machine.ClientTimer.TheVariants.{Retry, Limit, Linger}
-use Rattle.txn_client.specs.declared.machine.ClientTimer.{ClientTimer}
 use Rattle.txn_client.specs.Rows
 use Rattle.txn_client.specs.Rows.{ClientRow, NoClientRow, ClientStep, Invite, Other, silent}
 use Rattle.txn_client.specs.After.{if_armed, made_at, client_after, Makes}

@@ -1,7 +1,7 @@
 -- The client transactions of RFC 3261, section 17.1, with the changes of RFC 6026, section 7.2: one rule for each row of
 -- the table, in its order. A row says to which client it applies and at which event, and then the whole client after it
 -- and all that the event makes the transaction do.
-use Rattle.std.specs.Prelude.{◌≡◌, ℕ, ◌*◌, ◌⊎◌, Bool, true, false, Option, Some, None, IsSome}
+use Rattle.std.specs.Prelude.{◌≡◌, ℕ, ◌*◌, ◌⊎◌, Bool, true, false, Some, None, IsSome}
 use Rattle.txn_moments.specs.Moments.{t1, t2, t4, moment_after, doubled, doubled_up_to_t2}
 use Rattle.txn_client.specs.declared.machine.Client.{Client}
 use Rattle.txn_client.specs.declared.machine.ClientActs.{ClientActs}

@@ -1,5 +1,5 @@
 -- Runs of a client from its beginning.
-use Rattle.std.specs.Prelude.{◌≡◌, ◌≢◌, ℕ, ◌⊎◌, Bool, true, false, List, [], ◌∷◌, Option, None}
+use Rattle.std.specs.Prelude.{◌≡◌, ℕ, ◌⊎◌, Bool, true, false, List, [], ◌∷◌, None}
 use Rattle.txn_client.specs.declared.machine.Client.{Client}
 use Rattle.txn_client.specs.declared.machine.ClientActs.{ClientActs}
 use Rattle.txn_client.specs.declared.machine.ClientEvent.{ClientEvent}

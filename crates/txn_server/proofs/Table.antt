@@ -1,19 +1,18 @@
 -- The table as rows and the table as a function are one.
-use Rattle.std.proofs.Common.{◌≡◌, ℕ, ◌<◌, ◌≤◌, ◌⊎◌, inl, inr, Bool, true, false, Option, Some, None, IsSome, unwrap_or, refl, sym, ◌∙◌, ap, subst, arith}
+use Rattle.std.proofs.Common.{◌≡◌, ℕ, ◌<◌, ◌≤◌, ◌⊎◌, inl, inr, Bool, true, false, Option, Some, None, IsSome, unwrap_or, refl, sym, ap, subst, arith}
 use Rattle.std.proofs.lemmas.Bool.Decides.{nat_tests}
 use Rattle.txn_server.specs.declared.machine.AnswerClass.{AnswerClass}
-use Rattle.txn_server.specs.declared.machine.AnswerClass.TheVariants.{Provisional, Success, Failure, Neither}
+use Rattle.txn_server.specs.declared.machine.AnswerClass.TheVariants.{Provisional, Success, Failure}
 use Rattle.txn_server.specs.declared.machine.Server.{Server}
 use Rattle.txn_server.specs.declared.machine.ServerActs.{ServerActs}
 use Rattle.txn_server.specs.declared.machine.ServerEvent.{ServerEvent}
 use Rattle.txn_server.specs.declared.machine.ServerEvent.TheVariants.{Copy, Ack, Send, Timer}
 use Rattle.txn_server.specs.declared.machine.ServerState.{ServerState}
 use Rattle.txn_server.specs.declared.machine.ServerState.TheVariants.{Trying, Proceeding, Accepted, Completed, Confirmed, Terminated}
-use Rattle.txn_server.specs.declared.machine.ServerTimer.{ServerTimer}
 use Rattle.txn_server.specs.declared.machine.ServerTimer.TheVariants.{Retry, End}
 use Rattle.txn_server.specs.Rows
 use Rattle.txn_server.specs.Rows.{ServerRow, NoServerRow, ServerStep, Invite, Other, silent, IsProvisional, IsSuccess, IsFailure, IsFinal}
-use Rattle.txn_server.specs.After.{class_of, if_armed, if_answered, copied_at, acked_at, sent_at, fired_at, made_at, server_after, Makes}
+use Rattle.txn_server.specs.After.{class_of, if_armed, if_answered, sent_at, made_at, server_after, Makes}
 
 -- the classes of codes
 pub class_provisional : (code : ℕ) → IsProvisional code → class_of code ≡ Provisional

@@ -1,7 +1,7 @@
 -- The server transactions of RFC 3261, section 17.2, with the changes of RFC 6026, section 7.1: one rule for each row of
 -- the table, in its order. A row says to which server it applies and at which event, and then the whole server after it
 -- and all that the event makes the transaction do.
-use Rattle.std.specs.Prelude.{◌≡◌, ℕ, ◌*◌, ◌<◌, ◌≤◌, ◌⊎◌, Bool, true, false, Option, Some, None, IsSome}
+use Rattle.std.specs.Prelude.{◌≡◌, ℕ, ◌*◌, ◌<◌, ◌≤◌, ◌⊎◌, Bool, true, false, Some, None, IsSome}
 use Rattle.txn_moments.specs.Moments.{t1, t4, moment_after, doubled_up_to_t2}
 use Rattle.txn_server.specs.declared.machine.Server.{Server}
 use Rattle.txn_server.specs.declared.machine.ServerActs.{ServerActs}

@@ -1,10 +1,10 @@
 -- Runs of a server from its beginning, and the answers that it sends.
-use Rattle.std.specs.Prelude.{◌≡◌, ◌≢◌, ℕ, Bool, true, false, List, [], ◌∷◌, ◌++◌, Option, None}
+use Rattle.std.specs.Prelude.{◌≡◌, ◌≢◌, ℕ, Bool, true, false, List, [], ◌∷◌, ◌++◌, None}
 use Rattle.std.specs.List.{AllByRecursion}
 use Rattle.txn_server.specs.declared.machine.Server.{Server}
 use Rattle.txn_server.specs.declared.machine.ServerActs.{ServerActs}
 use Rattle.txn_server.specs.declared.machine.ServerEvent.{ServerEvent}
-use Rattle.txn_server.specs.declared.machine.ServerEvent.TheVariants.{Copy, Ack, Send, Timer}
+use Rattle.txn_server.specs.declared.machine.ServerEvent.TheVariants.{Send}
 use Rattle.txn_server.specs.declared.machine.ServerState.{ServerState}
 use Rattle.txn_server.specs.declared.machine.ServerState.TheVariants.{Trying, Proceeding, Accepted, Completed, Confirmed, Terminated}
 use Rattle.txn_server.specs.Rows.{ServerStep, new_server, IsProvisional, IsSuccess, IsFailure, IsFinal}

@@ -165,15 +165,16 @@ impl Server {
     fn end_fired(&mut self) -> ServerActs
         ensures { (now : ℕ) → Makes (fired_at self.old.invite self.old.state ServerTimer.End self.old now) self.old self.new result }
     {
-        let ends = match self.state {
-            Completed => true,
-            Accepted | Confirmed => self.invite,
-            _ => false,
-        };
-        if ends && self.end.is_some() {
-            self.state = Terminated;
-            self.retry = None;
-            self.end = None;
+        if self.end.is_none() {
+            return ServerActs::SILENT;
+        }
+        match (self.invite, self.state) {
+            (_, Completed) | (true, Accepted | Confirmed) => {
+                self.state = Terminated;
+                self.retry = None;
+                self.end = None;
+            }
+            _ => {}
         }
         ServerActs::SILENT
     }

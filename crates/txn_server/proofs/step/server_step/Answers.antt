@@ -1,5 +1,4 @@
 -- Each event makes what its row makes.
-use Rattle.txn_server.specs.declared.machine.ServerEvent.TheVariants.{Send}
 use Rattle.txn_server.proofs.Table.{makes_at, makes_sent}
 use Rattle.txn_server.proofs.step.server_step.Goals as goal
 
