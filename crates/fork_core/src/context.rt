@@ -1,6 +1,6 @@
 //! The context: its marks, and what it answers.
 
-ghost use Rattle.std.specs.Prelude.{◌≡◌, ◌<◌, ◌≤◌, ◌↔◌, ◌⊎◌, ℕ, Bool, IsTrue, IfSome, IfNone, MatchOption, length};
+ghost use Rattle.std.specs.Prelude.{◌≡◌, ◌≢◌, ◌<◌, ◌≤◌, ◌↔◌, ◌⊎◌, ℕ, Bool, IsTrue, IfSome, IfNone, MatchOption, length};
 ghost use Rattle.fork_core.specs.Answers.{Answer, History, IsKeptNow, at_first, with_branch, next_round, with_answer};
 ghost use Rattle.fork_core.specs.Choices.{GoesOnNow, IsToKeep, IsBest, AreAll, IsToCancel, Joins};
 ghost use Rattle.fork_core.specs.Preference.{GoesBefore};
@@ -51,14 +51,18 @@ impl Context {
     pub fn new(invite: bool) -> Context
         ensures { StandsFor result (at_first invite) }
     {
-        Context { invite, first: 0, marks: ArrayVec::new() }
+        Context {
+            invite,
+            first: 0,
+            marks: ArrayVec::new(),
+        }
     }
 
     /// Adds a branch to this round, and answers its number, from 0; `None` exactly where there are twelve.
     pub fn add(&mut self) -> Option<u8>
         ensures { (h : History) → StandsFor self.old h →
             MatchOption result ((length h.branches ≡ 12) × StandsFor self.new h)
-                (λ b. (length h.branches < 12) × (b ≡ length h.branches) × StandsFor self.new (with_branch h)) }
+            (λ b. (length h.branches < 12) × (b ≡ length h.branches) × StandsFor self.new (with_branch h)) }
     {
         let number = self.marks.len();
         if number == BRANCHES {
@@ -66,6 +70,13 @@ impl Context {
         }
         self.marks.push(Mark::Open);
         Some(number as u8)
+    }
+
+    /// How many branches there are, those of all rounds.
+    pub fn branches(&self) -> usize
+        ensures { result ≡ branch_count self.now }
+    {
+        self.marks.len()
     }
 
     /// Begins the next round: the branches so far take no part in it.
@@ -83,7 +94,7 @@ impl Context {
         ensures now { (h : History) → StandsFor self.old h → (result ≡ Forwarding.Now) ↔ GoesOnNow h code answered }
         ensures kept { (h : History) → StandsFor self.old h → (result ≡ Forwarding.Kept) ↔ IsToKeep h b code }
     {
-        let open = matches!(self.marks[usize::from(b)], Mark::Open);
+        let open = self.is_open(usize::from(b));
         self.count(b, code);
         match code {
             101..=199 if !answered => Forwarding::Now,
@@ -101,7 +112,7 @@ impl Context {
         ensures invite { self.new.invite ≡ self.old.invite }
     {
         let number = usize::from(b);
-        self.marks[number] = self.marks[number].after(code);
+        self.marks[number] = self.mark(number).after(code);
     }
 
     /// The branch with the best kept answer of this round; `None` exactly where no final answer of the round is kept.
@@ -112,11 +123,14 @@ impl Context {
     {
         let mut best = None;
         for b in self.first..self.marks.len() {
-            if let Mark::Kept(code) = self.marks[b] {
+            if let Mark::Kept(code) = self.mark(b) {
                 best = Some(better(best, b as u8, code));
             }
         }
-        best.map(|(b, _)| b)
+        match best {
+            Some((b, _)) => Some(b),
+            None => None,
+        }
     }
 
     /// The branches of an INVITE that have no final answer, in order of number; none for another request.
@@ -126,7 +140,7 @@ impl Context {
         let mut branches = ArrayVec::new();
         if self.invite {
             for b in 0..self.marks.len() {
-                if matches!(self.marks[b], Mark::Open) {
+                if self.is_open(b) {
                     branches.push(b as u8);
                 }
             }
@@ -143,7 +157,7 @@ impl Context {
         let mut branches = ArrayVec::new();
         if self.is_challenged(usize::from(chosen)) {
             for b in 0..self.marks.len() {
-                if b != usize::from(chosen) && self.is_challenged(b) {
+                if self.joins(usize::from(chosen), b) {
                     branches.push(b as u8);
                 }
             }
@@ -151,12 +165,36 @@ impl Context {
         branches
     }
 
+    /// Whether the branch `b` joins `chosen`, which has a challenge: it is another branch of this round with one.
+    fn joins(&self, chosen: usize, b: usize) -> bool
+        requires { b < branch_count self.now }
+        ensures { IsTrue result ↔ ((b ≢ chosen) × (self.now.first ≤ b) × IsChallengeMark (mark_of self.now b)) }
+    {
+        b != chosen && self.is_challenged(b)
+    }
+
+    /// Whether this branch has no final answer.
+    fn is_open(&self, b: usize) -> bool
+        requires { b < branch_count self.now }
+        ensures { IsTrue result ↔ (mark_of self.now b ≡ Mark.Open) }
+    {
+        matches!(self.mark(b), Mark::Open)
+    }
+
+    /// The mark of this branch.
+    fn mark(&self, b: usize) -> Mark
+        requires { b < branch_count self.now }
+        ensures { result ≡ mark_of self.now b }
+    {
+        self.marks[b]
+    }
+
     /// Whether a 401 or 407 is kept for this branch in this round.
     fn is_challenged(&self, b: usize) -> bool
         requires { b < branch_count self.now }
         ensures { IsTrue result ↔ ((self.now.first ≤ b) × IsChallengeMark (mark_of self.now b)) }
     {
-        self.first <= b && self.marks[b].is_challenge()
+        self.first <= b && self.mark(b).is_challenge()
     }
 }
 
@@ -190,7 +228,11 @@ fn better(best: Option<(u8, u16)>, b: u8, code: u16) -> (u8, u16)
 {
     match best {
         Some((other, other_code)) => {
-            if goes_before(code, other_code) { (b, code) } else { (other, other_code) }
+            if goes_before(code, other_code) {
+                (b, code)
+            } else {
+                (other, other_code)
+            }
         }
         None => (b, code),
     }

@@ -6,6 +6,10 @@
 #![tactic(auto)]
 
 mod context;
+mod laws;
 mod preference;
+#[cfg(test)]
+mod tests;
 
 pub use context::{Context, Forwarding};
+pub use laws::{one_best_answer, preference_is_a_strict_order};
