@@ -1,0 +1,4 @@
+pub mod Finals
+pub mod Standing
+pub mod Numbers
+pub mod Best

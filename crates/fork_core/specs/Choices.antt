@@ -1,0 +1,41 @@
+-- What becomes of answers: which go on at once, which is the best, which branches are cancelled, and which challenges are
+-- joined (RFC 3261, section 16.7, steps 4 to 7 and 10; RFC 6026, section 7).
+use Rattle.std.specs.Prelude.{◌≡◌, ◌≢◌, ℕ, ◌<◌, ◌⊎◌, ◌↔◌, Bool, true, false, List, length, Contains}
+use Rattle.std.specs.List.Sorted.{IsStrictlyIncreasing}
+use Rattle.fork_core.specs.Answers.{Answer, History, IsProvisional, IsSuccess, IsFailure, HasNoFinal, IsKeptNow}
+use Rattle.fork_core.specs.Preference.{Preferred}
+
+-- An answer goes on at once: a provisional one other than 100 while no final answer was sent; a 2xx to an INVITE always, and
+-- to another request while no final answer was sent.
+abbrev pub GoesOnNow : History → ℕ → Bool → Type 0
+GoesOnNow h code answered =
+    (IsProvisional code × (code ≢ 100) × (answered ≡ false)) ⊎ (IsSuccess code × ((h.invite ≡ true) ⊎ (answered ≡ false)))
+
+-- an answer of 300 to 699 is kept on a branch that has no final answer yet
+abbrev pub IsToKeep : History → ℕ → ℕ → Type 0
+IsToKeep h branch code = IsFailure code × HasNoFinal h.answers branch
+
+-- the best answer: no other of the round is preferred to it
+pub record IsBest (h : History) (a : Answer) : Type 0 where
+  pub kept : IsKeptNow h a
+  pub best : (other : Answer) → IsKeptNow h other → ¬ Preferred other.code other.branch a.code a.branch
+
+-- the numbers of which something holds, in order
+pub record AreAll (P : ℕ → Type 0) (numbers : List ℕ) : Type 0 where
+  pub rising : IsStrictlyIncreasing numbers
+  pub all : (n : ℕ) → Contains numbers n ↔ P n
+
+-- a branch of an INVITE is to be cancelled while it has no final answer
+abbrev pub IsToCancel : History → ℕ → Type 0
+IsToCancel h branch = (h.invite ≡ true) × (branch < length h.branches) × HasNoFinal h.answers branch
+
+abbrev pub IsChallenge : ℕ → Type 0
+IsChallenge code = (code ≡ 401) ⊎ (code ≡ 407)
+
+-- a 401 or 407 is kept for this branch in this round
+abbrev pub IsChallenged : History → ℕ → Type 0
+IsChallenged h branch = (a : Answer) × IsKeptNow h a × (a.branch ≡ branch) × IsChallenge a.code
+
+-- a branch's challenge joins the chosen answer: both are challenges of this round, on two branches
+abbrev pub Joins : History → ℕ → ℕ → Type 0
+Joins h chosen branch = IsChallenged h chosen × IsChallenged h branch × (branch ≢ chosen)

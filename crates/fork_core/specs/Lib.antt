@@ -1,0 +1,4 @@
+pub mod Answers
+pub mod Preference
+pub mod Choices
+pub mod Stands

@@ -1,0 +1,4 @@
+pub mod Rows
+pub mod Timers
+pub mod After
+pub mod Runs
