@@ -7,6 +7,7 @@ use std::fs;
 use std::io::Read;
 
 /// The files of the file system, by path. It tells nothing of what they hold.
+#[derive(Drop)]
 pub struct Disk<'a, R> {
     rt: &'a R,
     faults: u64,

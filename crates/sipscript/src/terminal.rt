@@ -4,6 +4,7 @@ use outside_ports::{Console, PrintEnd};
 use std::io::Write;
 
 /// Standard output. It tells nothing of what was printed, and never answers `NoMemory`.
+#[derive(Drop)]
 pub struct Terminal<'a, R> {
     rt: &'a R,
     faults: u64,
