@@ -3,3 +3,4 @@ mod Drafts
 mod Sound
 mod Pieces
 mod Run
+mod Scripts
