@@ -1,0 +1,10 @@
+//! The trees of a script: as it is written (`RawScript`) and as it is accepted (`Script`).
+//!
+//! The meaning of a script is `specs/Meaning.antt`: the dialogue of each of its blocks.
+#![tactic(auto)]
+
+pub mod script;
+pub mod setting;
+
+pub use script::{Expr, Part, Script, Stmt, TableUse, Target};
+pub use setting::{Listen, Parameters};

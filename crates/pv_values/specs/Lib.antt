@@ -1,0 +1,5 @@
+pub mod Numbers
+pub mod Values
+pub mod Kinds
+pub mod Matching
+pub mod Transformations
