@@ -124,14 +124,18 @@ expansion_of parts = expanded (map part_of parts)
 
 -- ---- expressions
 
--- What an expression does where its value is wanted, and where its truth is. They differ for a call alone: its value is
--- its code, and it is true where its code is above 0.
-pub record Meant : Type 0 where
-  pub value : Valued
-  pub truth : Valued
+-- An expression is read for its value, or for its truth. They differ for a call alone: its value is its code, and it is
+-- true where its code is above 0.
+pub data Wanted : Type 0 where
+  AsValue : Wanted
+  AsTruth : Wanted
+
+-- what an expression does
+abbrev pub Meant : Type 0
+Meant = Wanted → Valued
 
 abbrev pub plain : Valued → Meant
-plain m = record { value = m; truth = m }
+plain m wanted = m
 
 -- what a call of a block does, given what comes after its code
 abbrev pub Routes : Type 0
@@ -139,10 +143,8 @@ Routes = ℕ → WithCode → State → RunTalk
 
 -- something with a code: a function or a route
 abbrev pub coded : (WithCode → State → RunTalk) → Meant
-coded call = record {
-  value = λ next. counted (call (settle (λ n. next (Int n))));
-  truth = λ next. counted (call (settle (λ n. next (bit (int_lt (pos 0) n)))))
-}
+coded call AsValue next = counted (call (settle (λ n. next (Int n))))
+coded call AsTruth next = counted (call (settle (λ n. next (bit (int_lt (pos 0) n)))))
 
 -- the values of the expanded arguments, from left to right, behind those before
 abbrev pub arguments_behind : List Val → List (List Part) → WithValues → State → RunTalk
@@ -155,16 +157,16 @@ called f args next = arguments_behind [] args (λ vs s. Asks (Call f vs) (λ ans
 -- a value, then each operand with the operator before it
 abbrev pub linked : List (BinOp × Meant) → Val → Valued
 linked [] x next = next x
-linked (c ∷ cs) x next = c.1.value (λ y. linked cs (binary_value c.0 x y) next)
+linked (c ∷ cs) x next = c.1 AsValue (λ y. linked cs (binary_value c.0 x y) next)
 
 -- `&&` and `||` give 1 or 0, and stop early
 abbrev pub all_true : List Meant → Valued
 all_true [] next = next (bit true)
-all_true (m ∷ ms) next = m.truth (λ v s. if is_true v then all_true ms next s else next (bit false) s)
+all_true (m ∷ ms) next = m AsTruth (λ v s. if is_true v then all_true ms next s else next (bit false) s)
 
 abbrev pub any_true : List Meant → Valued
 any_true [] next = next (bit false)
-any_true (m ∷ ms) next = m.truth (λ v s. if is_true v then next (bit true) s else any_true ms next s)
+any_true (m ∷ ms) next = m AsTruth (λ v s. if is_true v then next (bit true) s else any_true ms next s)
 
 -- the pattern of this number matches in the value's text; Null never matches
 abbrev pub matched : Option (List ℕ) → Val → Bool
@@ -179,11 +181,11 @@ expr_step script route (Expr-F.Text t) = plain (λ next. next (limited t))
 expr_step script route (Expr-F.Read p) = plain (part_of p)
 expr_step script route (Expr-F.Call f args) = coded (called f args)
 expr_step script route (Expr-F.Route block) = coded (route block)
-expr_step script route (Expr-F.Not a) = plain (λ next. a.truth (λ v. next (bit (not (is_true v)))))
-expr_step script route (Expr-F.Negative a) = plain (λ next. a.value (λ v. next (negated v)))
-expr_step script route (Expr-F.Chain a cs) = plain (λ next. a.value (λ x. linked cs x next))
+expr_step script route (Expr-F.Not a) = plain (λ next. a AsTruth (λ v. next (bit (not (is_true v)))))
+expr_step script route (Expr-F.Negative a) = plain (λ next. a AsValue (λ v. next (negated v)))
+expr_step script route (Expr-F.Chain a cs) = plain (λ next. a AsValue (λ x. linked cs x next))
 expr_step script route (Expr-F.Matches a p) =
-    plain (λ next. a.value (λ v. next (bit (matched (slice_get script.patterns p) v))))
+    plain (λ next. a AsValue (λ v. next (bit (matched (slice_get script.patterns p) v))))
 expr_step script route (Expr-F.All ms) = plain (all_true ms)
 expr_step script route (Expr-F.Any ms) = plain (any_true ms)
 
@@ -238,17 +240,17 @@ assigned (target.Item way t key) value next =
 -- what a `return` gives back
 abbrev pub returned : Script → Routes → Option Expr → WithCode → State → RunTalk
 returned script route None back = back (pos 1)
-returned script route (Some e) back = (expr_of script route e).value (λ v. back (code_of v))
+returned script route (Some e) back = expr_of script route e AsValue (λ v. back (code_of v))
 
 abbrev pub stmt_step : Script → Routes → Stmt-F Made → Made
-stmt_step script route (Stmt-F.Set target e) ways = counted (assigned target (expr_of script route e).value ways.on)
-stmt_step script route (Stmt-F.Do e) ways = (expr_of script route e).value (λ v. ways.on)
+stmt_step script route (Stmt-F.Set target e) ways = counted (assigned target (expr_of script route e AsValue) ways.on)
+stmt_step script route (Stmt-F.Do e) ways = expr_of script route e AsValue (λ v. ways.on)
 stmt_step script route (Stmt-F.If e first other) ways =
-    counted ((expr_of script route e).truth (λ v s. if is_true v then in_order first ways s else in_order other ways s))
+    counted (expr_of script route e AsTruth (λ v s. if is_true v then in_order first ways s else in_order other ways s))
 stmt_step script route (Stmt-F.While e body) ways =
-    rounds script.parameters.max_while_loops (expr_of script route e).truth (in_order body) ways
+    rounds script.parameters.max_while_loops (expr_of script route e AsTruth) (in_order body) ways
 stmt_step script route (Stmt-F.Switch e cases default) ways =
-    counted ((expr_of script route e).value (λ v. chosen v cases default (record ways { out = ways.on })))
+    counted (expr_of script route e AsValue (λ v. chosen v cases default (record ways { out = ways.on })))
 stmt_step script route Stmt-F.Break ways = counted ways.out
 stmt_step script route (Stmt-F.Return e) ways = counted (returned script route e ways.back)
 stmt_step script route Stmt-F.Exit ways = counted (ends how.Exit)

@@ -1,6 +1,6 @@
 -- Digits that are read one by one.
 use Rattle.std.proofs.Common.{◌≡◌, ℕ, ◌+◌, ◌*◌, ◌^◌, ◌<◌, ◌≤◌, nat_lt, Bool, true, false, ◌&&◌, List, [], ◌∷◌, length, drop, get_or, Option, Some, None, if◌then◌else◌, refl, sym, ap, ◌∙◌, inl, inr, arith, ◌==◌, zero, suc, true≢false}
-use Rattle.std.proofs.lemmas.Bool.{cases_Bool, lt-ltb, ltb-true, ltb-false, cases_lt}
+use Rattle.std.proofs.lemmas.Bool.{cases_Bool, lt-ltb, ltb-true, cases_lt}
 use Rattle.std.proofs.lemmas.List.{at_drop_more}
 use Rattle.std.proofs.Math.ListN.{drop_of_length-le}
 use Rattle.std.specs.Char.{digit_value, is_digit}
@@ -23,8 +23,9 @@ grows n (d ∷ ds) = let more = grows (n * 10 + digit_value d) ds in omega (arit
 -- nothing is below what a number below it isn't
 not_below : (a b c : ℕ) → c ≤ a → a ≤ b → nat_lt b c ≡ false
 not_below a b c h k = elim (cases_Bool (nat_lt b c)) [
-    inl t ↦ let low = ltb-true b c t in absurd (omega (arith, low, h, k))
-  | inr f ↦ f ]
+  | inl t ↦ let low = ltb-true b c t in absurd (omega (arith, low, h, k))
+  | inr f ↦ f
+]
 
 and_false : (a b : Bool) → b ≡ false → (a && b) ≡ false
 and_false true b h = h
@@ -35,15 +36,17 @@ after_is : (n : ℕ) (ds : List ℕ) → n < 2 ^ 64 → number_after n ds ≡
     (if list_all (λ c. is_digit c 10) ds && nat_lt (digits_value_after 10 n ds) (2 ^ 64) then Some (digits_value_after 10 n ds) else None)
 after_is n [] h = let t : nat_lt n (2 ^ 64) ≡ true = lt-ltb _ _ h in rw t refl
 after_is n (d ∷ ds) h = elim (cases_Bool (is_digit d 10)) [
-    inr f ↦ rw f refl
+  | inr f ↦ rw f refl
   | inl t ↦ elim (cases_lt (n * 10 + digit_value d) (2 ^ 64)) [
-      inl low ↦ let u : nat_lt (n * 10 + digit_value d) (2 ^ 64) ≡ true = lt-ltb _ _ low in
-          rw (t, u) (after_is (n * 10 + digit_value d) ds low)
+    | inl low ↦ let u : nat_lt (n * 10 + digit_value d) (2 ^ 64) ≡ true = lt-ltb _ _ low in
+        rw (t, u) (after_is (n * 10 + digit_value d) ds low)
     | inr high ↦
         let u : nat_lt (n * 10 + digit_value d) (2 ^ 64) ≡ false = not_below (2 ^ 64) (n * 10 + digit_value d) (2 ^ 64) (omega arith) high in
         let v : nat_lt (digits_value_after 10 (n * 10 + digit_value d) ds) (2 ^ 64) ≡ false =
-            not_below (n * 10 + digit_value d) _ (2 ^ 64) high (grows (n * 10 + digit_value d) ds) in
-        rw (t, u, and_false (list_all (λ c. is_digit c 10) ds) _ v) refl ] ]
+        not_below (n * 10 + digit_value d) _ (2 ^ 64) high (grows (n * 10 + digit_value d) ds) in
+        rw (t, u, and_false (list_all (λ c. is_digit c 10) ds) _ v) refl
+  ]
+]
 
 -- one digit or more
 pub whole_is : (ds : List ℕ) → 0 < length ds → number_after 0 ds ≡ numeral ds
@@ -60,8 +63,9 @@ no_digit n i ds h f = next_is n i ds h ∙ (rw f refl)
 
 pub too_great : (n i : ℕ) (ds : List ℕ) → i < length ds → 2 ^ 64 ≤ n * 10 + digit_value (get_or ds i 0) → number_after n (drop i ds) ≡ None
 too_great n i ds h high = next_is n i ds h ∙ (elim (cases_Bool (is_digit (get_or ds i 0) 10)) [
-    inl t ↦ let u = not_below (2 ^ 64) (n * 10 + digit_value (get_or ds i 0)) (2 ^ 64) (omega arith) high in rw (t, u) refl
-  | inr f ↦ rw f refl ])
+  | inl t ↦ let u = not_below (2 ^ 64) (n * 10 + digit_value (get_or ds i 0)) (2 ^ 64) (omega arith) high in rw (t, u) refl
+  | inr f ↦ rw f refl
+])
 
 pub goes_on : (n i m : ℕ) (ds : List ℕ) → i < length ds → is_digit (get_or ds i 0) 10 ≡ true → m ≡ n * 10 + digit_value (get_or ds i 0) →
     m < 2 ^ 64 → number_after m (drop (i + 1) ds) ≡ number_after n (drop i ds)

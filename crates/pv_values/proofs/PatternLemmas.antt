@@ -1,5 +1,5 @@
 -- What `regex` tells of a pattern, in the words of `Matching`.
-use Rattle.std.proofs.Common.{◌≡◌, ◌≢◌, ℕ, ◌<◌, ◌≤◌, nat_le, Bool, true, false, ◌&&◌, List, Option, Some, None, IsSomeAnd, IfSome, IsUtf8, is_some, refl, sym, ap, ◌∙◌, subst, get_or, inl, inr, length, arith, ◌⊎◌, chars}
+use Rattle.std.proofs.Common.{◌≡◌, ◌≢◌, ℕ, ◌<◌, ◌≤◌, nat_le, Bool, true, false, ◌&&◌, List, Option, Some, None, IsSomeAnd, IfSome, IsUtf8, is_some, refl, subst, get_or, inl, inr, length, arith, chars}
 use Rattle.std.proofs.lemmas.Bool.{cases_Bool, le-leb, leb-true}
 use Rattle.std.specs.Str.{is_utf8}
 use Rattle.std.proofs.lemmas.Str.{IsUtf8-from_is_utf8, is_utf8-from_IsUtf8}
@@ -8,7 +8,7 @@ use Rattle.regex_syntax.specs.Brackets.{Nested}
 use Rattle.regex_syntax.specs.Captures.{SameCaptures}
 use Rattle.regex_syntax.specs.Verdict.{Reads, Refuses}
 use Rattle.regex_syntax.specs.declared.error.ErrorKind.{ErrorKind}
-use Rattle.regex_syntax.specs.declared.error.ErrorKind.TheVariants.{OutOfMemory, NestLimitExceeded}
+use Rattle.regex_syntax.specs.declared.error.ErrorKind.TheVariants.{OutOfMemory}
 use Rattle.regex_hir.specs.Re.{Re}
 use Rattle.regex_hir.specs.Find.{find}
 use Rattle.regex_hir.specs.Meaning.{meaning}
@@ -50,8 +50,9 @@ too_deep (Some x) h = below_test _ _ h
   where
     below_test : (m n : ℕ) → n < m → nat_le m n ≡ false
     below_test m n h = elim (cases_Bool (nat_le m n)) [
-        inl t ↦ let low = leb-true m n t in absurd (omega (arith, low, h))
-      | inr f ↦ f ]
+      | inl t ↦ let low = leb-true m n t in absurd (omega (arith, low, h))
+      | inr f ↦ f
+    ]
 
 -- what is refused by a fault of syntax is none
 pub none_of_refusal : (source : List ℕ) (kind : ErrorKind) → Refuses byte_config source kind → kind ≢ OutOfMemory →
@@ -65,8 +66,9 @@ none_of_refusal source kind (inr (inr deep)) h = let e = too_deep (read byte_con
 pub none_of_bytes : (source : List ℕ) → ¬ (IsUtf8 source) → is_pattern source ≡ false
 unfolding pattern_in
 none_of_bytes source h = elim (cases_Bool (is_utf8 source)) [
-    inl t ↦ absurd (h (IsUtf8-from_is_utf8 source t))
-  | inr f ↦ rw f refl ]
+  | inl t ↦ absurd (h (IsUtf8-from_is_utf8 source t))
+  | inr f ↦ rw f refl
+]
 
 finds_as : (o : Option (Nested Re × Names)) (a : Re) (names : Names) (n : ℕ) (hay : List ℕ) → ((k : ℕ) → get_or hay k 0 < 256) →
     IsSomeAnd o (λ (re, found). (re.depth ≤ byte_config.nest_limit) × SameCaptures a re.value × (names ≡ found) × (n ≤ length names)) →

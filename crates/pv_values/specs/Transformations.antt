@@ -1,5 +1,5 @@
 -- What a script makes of a variable's value.
-use Rattle.std.specs.Prelude.{ℕ, ℤ, pos, List, length, Option, Some, None}
+use Rattle.std.specs.Prelude.{ℤ, pos, length, Option, Some, None}
 use Rattle.pv_values.specs.declared.value.Val.{Val}
 use Rattle.pv_values.specs.declared.value.Val.TheVariants.{Null, Int, Text}
 use Rattle.pv_values.specs.declared.variable.Transformation.{Transformation}

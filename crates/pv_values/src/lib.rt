@@ -28,3 +28,6 @@ pub use table::{Key, TableSpec};
 pub use text::Text;
 pub use value::{Val, Vals, as_int, as_text, truth};
 pub use variable::{PvUse, Transformation};
+
+#[cfg(test)]
+mod tests;

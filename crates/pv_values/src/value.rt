@@ -1,6 +1,6 @@
 // Values: their truth, their number and their text.
 
-ghost use Rattle.std.specs.Prelude.{◌≡◌, ◌++◌, ◌∷◌, [], IfOk, List, ℕ, slice_index_or, length, ◌<◌};
+ghost use Rattle.std.specs.Prelude.{◌≡◌, ◌++◌, ◌∷◌, [], IfOk, OnOk, OnErr, slice_index_or, slice_set, length, ◌<◌};
 ghost use Rattle.pv_values.specs.Values.{is_true, number_of, text_of};
 
 use crate::number::text_number;
@@ -89,9 +89,54 @@ impl Vals {
         }
     }
 
+    pub fn new(alloc: Global) -> Vals
+        ensures { result ≡ [] }
+    {
+        Vals {
+            list: Items::new(alloc),
+        }
+    }
+
     pub fn as_slice(&self) -> &[Val]
         ensures { result.now ≡ self.now }
     {
         self.list.as_slice()
+    }
+
+    pub fn push(&mut self, value: Val) -> Result<(), NoMemory>
+        ensures ok { OnOk result (self.new ≡ self.old ++ value ∷ []) }
+        ensures err { OnErr result (self.new ≡ self.old) }
+    {
+        self.list.push(value)
+    }
+
+    /// Puts a value in the place of another.
+    pub fn set(&mut self, at: usize, value: Val)
+        requires { at < length self.old }
+        ensures { self.new ≡ slice_set self.old at value }
+    {
+        self.list.set(at, value);
+    }
+
+    /// A copy of the value at this place, or `$null` where there is none.
+    pub fn copy_at(&self, alloc: Global, at: usize) -> Result<Val, NoMemory>
+        ensures { IfOk result (λ v. v ≡ slice_index_or self.now at Val.Null) }
+    {
+        let values = self.as_slice();
+        if at < values.len() {
+            values[at].copy(alloc)
+        } else {
+            Ok(Val::Null)
+        }
+    }
+
+    pub fn copy(&self, alloc: Global) -> Result<Vals, NoMemory>
+        ensures { IfOk result (λ v. v ≡ self.now) }
+    {
+        let mut values = Vals::new(alloc);
+        for value in self.as_slice() {
+            values.push(value.copy(alloc)?)?;
+        }
+        Ok(values)
     }
 }

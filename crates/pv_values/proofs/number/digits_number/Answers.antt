@@ -1,4 +1,4 @@
-use Rattle.std.proofs.Common.{refl, ◌∙◌, sym, ap, arith}
+use Rattle.std.proofs.Common.{◌∙◌, arith}
 use Rattle.std.proofs.lemmas.Bool.{lt-ltb}
 use Rattle.pv_values.proofs.Digits.{no_digit, too_great, goes_on, no_test, at_least, is_none, is_some_number}
 use Rattle.pv_values.proofs.number.digits_number.Goals as goal

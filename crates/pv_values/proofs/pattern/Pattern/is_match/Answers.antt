@@ -1,8 +1,7 @@
-use Rattle.std.proofs.Common.{refl, ◌∙◌, ap, ◌≡◌, is_some, arith}
+use Rattle.std.proofs.Common.{◌∙◌, ap, is_some, arith}
 use Rattle.std.proofs.Math.Bool.{Bool-set}
 use Rattle.std.proofs.Math.Logic.{∥∥₁_elim}
 use Rattle.regex_hir.specs.Find.{find}
-use Rattle.pv_values.specs.Matching.{matches_in}
 use Rattle.pv_values.proofs.PatternLemmas.{match_of_regex}
 use Rattle.pv_values.proofs.pattern.Pattern.is_match.Goals as goal
 

@@ -1,4 +1,4 @@
-use Rattle.std.proofs.Common.{refl, ◌∙◌}
+use Rattle.std.proofs.Common.{◌∙◌}
 use Rattle.pv_values.proofs.PatternLemmas.{pattern_of_regex, none_of_error, none_of_bytes}
 use Rattle.pv_values.proofs.pattern.Pattern.new.Goals as goal
 
