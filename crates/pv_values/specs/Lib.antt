@@ -2,4 +2,3 @@ pub mod Numbers
 pub mod Values
 pub mod Kinds
 pub mod Matching
-pub mod Transformations

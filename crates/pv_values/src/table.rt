@@ -12,9 +12,11 @@ pub struct TableSpec {
     /// The logarithm of the number of buckets, 2 to 14.
     pub size: u32,
     /// How long an item lives, in seconds, up to 10,000,000; 0 is for ever.
-    pub autoexpire: u32,
+    pub autoexpire: u64,
     /// What an absent key reads as.
     pub initval: Option<i64>,
+    /// A change of an item starts its life anew.
+    pub update: bool,
 }
 
 /// The key of an item: an expanded text, of any length.

@@ -1,0 +1,10 @@
+pub mod Counts
+pub mod Told
+pub mod Port
+pub mod Files
+pub mod Console
+pub mod Calls
+pub mod MemConsole
+pub mod MemFiles
+pub mod FileList
+pub mod MemPort

@@ -1,0 +1,24 @@
+//! The outside of the proxy, as traits: a port for datagrams, files by name, a console.
+//!
+//! Nothing below the engine knows a socket, a clock or a file. Whoever needs the outside takes one of
+//! these traits, whose ghost members are the meanings that contracts speak of: what was got and sent,
+//! what a name holds, what was printed, and how often each kind of fault came. Beside each trait stands
+//! the object in memory that is exact: `MemPort`, `MemFiles` and `MemConsole`.
+#![tactic(auto)]
+
+mod bytes;
+mod calls;
+mod console;
+mod files;
+mod mem_console;
+mod mem_files;
+mod mem_port;
+mod port;
+
+pub use bytes::Bytes;
+pub use console::{Console, PrintEnd};
+pub use files::{FileFault, Files};
+pub use mem_console::MemConsole;
+pub use mem_files::MemFiles;
+pub use mem_port::{Arrival, MemPort};
+pub use port::{Addr, Datagram, Port, Recv, RecvCall, SendEnd};

@@ -1,0 +1,9 @@
+//! SIP messages.
+//!
+//! So far the plain request alone: an OPTIONS whose lines stand in one order, which the first scripts answer.
+#![tactic(auto)]
+
+mod plain;
+
+pub use plain::{PlainRequest, read_plain};
+pub use sip_words::Span;

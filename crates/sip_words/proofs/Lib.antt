@@ -1,0 +1,5 @@
+pub mod Runs
+pub mod Digits
+pub mod ManyLaws
+pub mod Steps
+pub mod ParamTurns
