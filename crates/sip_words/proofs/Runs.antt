@@ -1,9 +1,7 @@
 -- One step of each run.
-use Rattle.std.proofs.Common.{◌≡◌, ◌≢◌, ℕ, zero, suc, ◌+◌, ◌-◌, ◌<◌, ◌≤◌, Bool, true, false, cond, List, [], ◌∷◌, length, take, drop, get_or, ◌==◌, refl, sym, ap, ◌∙◌, inl, inr, arith, Option, Some, None, option_map}
+use Rattle.std.proofs.Common.{◌≡◌, ◌≢◌, ℕ, ◌+◌, ◌-◌, ◌<◌, ◌≤◌, true, false, List, [], ◌∷◌, length, take, drop, get_or, ◌==◌, refl, sym, ap, ◌∙◌, inl, inr, arith, Option, Some, None, option_map}
 use Rattle.std.proofs.lemmas.List.{drop_more, drop_all, drop-drop, take_rest}
 use Rattle.std.proofs.lemmas.Bool.{cases_Bool, ne_eqb}
-use Rattle.std.proofs.lemmas.Grind.{common_steps}
-use Rattle.std.specs.List.{prefix_len}
 use Rattle.sip_words.specs.declared.bytes.Class.{Class}
 use Rattle.sip_words.specs.Bytes.{has, is_wsp}
 use Rattle.sip_words.specs.Words.{run_end, blank_len, lws_len, lws_end, is_fold, quoted_len, quoted_end}

@@ -1,20 +1,19 @@
 -- Words and marks end behind the place where they begin.
-use Rattle.std.proofs.Common.{◌≡◌, ℕ, zero, suc, ◌+◌, ◌-◌, ◌<◌, ◌≤◌, Bool, true, false, cond, List, [], ◌∷◌, ◌++◌, length, drop, ◌==◌, refl, sym, ap, ◌∙◌, inl, inr, arith, Option, Some, None, option_map}
+use Rattle.std.proofs.Common.{◌≡◌, ℕ, ◌+◌, ◌<◌, ◌≤◌, Bool, true, cond, List, [], ◌∷◌, ◌++◌, length, drop, refl, sym, ap, ◌∙◌, inl, inr, arith, Option, Some, None, option_map}
 use Rattle.std.specs.Prelude.{codes, slice_get, IfSome}
 use Rattle.std.specs.List.{find}
 use Rattle.std.proofs.lemmas.Bool.{cases_Bool, eqb-true, both_ways}
-use Rattle.std.proofs.lemmas.Option.{cond_some, slice_get_within, same_Some, none-some}
+use Rattle.std.proofs.lemmas.Option.{cond_some, slice_get_within, same_Some}
 use Rattle.sip_words.specs.declared.bytes.Class.TheVariants.{Token}
 use Rattle.sip_words.specs.declared.marks.Mark.{Mark}
 use Rattle.sip_words.specs.declared.marks.Setting.{Setting}
 use Rattle.sip_words.specs.declared.marks.Setting.TheVariants.{Field, Uri}
 use Rattle.sip_words.specs.declared.Span.{Span}
 use Rattle.sip_words.specs.declared.params.Param.{Param}
-use Rattle.sip_words.specs.declared.params.Params.{Params}
-use Rattle.sip_words.specs.Words.{◌>>=◌, word_end, lws_len, lws_end, quoted_len, quoted_end, stands, is_the}
+use Rattle.sip_words.specs.Words.{◌>>=◌, word_end, lws_end, quoted_len, quoted_end, stands, is_the}
 use Rattle.sip_words.specs.Marks.{skip, mark_at}
-use Rattle.sip_words.specs.Spans.{span, IsBetween, HasParts, KnownHaveParts}
-use Rattle.sip_words.specs.Many.{Next, Item, Done, Wrong, Advances}
+use Rattle.sip_words.specs.Spans.{IsBetween, HasParts, KnownHaveParts}
+use Rattle.sip_words.specs.Many.{Item, Done, Wrong, Advances}
 use Rattle.sip_words.specs.Params.{value_class, value_end, param_at, item, item_behind, next_param, is_named, named, first_of, known, no_params, with_param}
 use Rattle.sip_words.proofs.Digits.{word_is}
 

@@ -1,9 +1,9 @@
 -- The classes of bytes that the grammar names (RFC 3261, section 25.1).
-use Rattle.std.specs.Prelude.{ℕ, Bool, true, false, not, List, [], ◌∷◌, ◌==◌, nat_lt, cond, codes}
-use Rattle.std.specs.Char.{is_ascii_alphanumeric, is_ascii_digit}
+use Rattle.std.specs.Prelude.{ℕ, Bool, true, false, not, List, ◌==◌, nat_lt, cond, codes}
+use Rattle.std.specs.Char.{is_ascii_alphabetic, is_ascii_alphanumeric, is_ascii_digit}
 use Rattle.std.specs.List.{list_any}
 use Rattle.sip_words.specs.declared.bytes.Class.{Class}
-use Rattle.sip_words.specs.declared.bytes.Class.TheVariants.{Token, Name, Digit, Scheme, Value, UriValue, Bare, InBrackets, Visible, User, Password, BeforeAt, Unbroken}
+use Rattle.sip_words.specs.declared.bytes.Class.TheVariants.{Token, Name, Digit, Letter, Scheme, Value, UriValue, Bare, InBrackets, Visible, User, Password, BeforeAt, Unbroken}
 
 infixr 6 ◌or◌
 abbrev pub ◌or◌ : Bool → Bool → Bool
@@ -29,6 +29,7 @@ unfoldable pub has : Class → ℕ → Bool
 has Token b = is_ascii_alphanumeric b or is_one_of (codes "-.!%*_+`'~") b
 has Name b = is_ascii_alphanumeric b or is_one_of (codes "-._") b
 has Digit b = is_ascii_digit b
+has Letter b = is_ascii_alphabetic b
 has Scheme b = is_ascii_alphanumeric b or is_one_of (codes "+-.") b
 has Value b = not (is_one_of (codes ";,\"<> \t\r\n") b)
 has UriValue b = not (is_one_of (codes ";,\"<> \t?") b)

@@ -3,7 +3,7 @@ use Rattle.std.specs.Prelude.{◌≡◌, ◌≢◌, ℕ, ◌+◌, ◌<◌, true,
 use Rattle.std.specs.List.{find, flat_map, AllByRecursion}
 use Rattle.std.specs.Str.{str_eq_ignore_ascii_case}
 use Rattle.sip_words.specs.declared.bytes.Class.{Class}
-use Rattle.sip_words.specs.declared.bytes.Class.TheVariants.{Token, Value, UriValue}
+use Rattle.sip_words.specs.declared.bytes.Class.TheVariants.{Token}
 use Rattle.sip_words.specs.declared.marks.Mark.{Mark}
 use Rattle.sip_words.specs.declared.marks.Setting.{Setting}
 use Rattle.sip_words.specs.declared.marks.Setting.TheVariants.{Field, Uri}
@@ -28,6 +28,10 @@ blank FoldTab = 13 ∷ 10 ∷ 9 ∷ []
 
 abbrev pub lws : List Blank → List ℕ
 lws blanks = flat_map blank blanks
+
+-- no LWS begins here
+abbrev pub NoBlank : List ℕ → Type 0
+NoBlank rest = (b : Blank) (w : List ℕ) → rest ≢ blank b ++ w
 
 -- one byte, with LWS round it
 pub record MarkTree : Type 0 where

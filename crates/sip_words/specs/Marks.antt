@@ -1,5 +1,5 @@
 -- Marks: bytes that part two words.
-use Rattle.std.specs.Prelude.{ℕ, ◌+◌, Bool, List, Option, Some, None, if◌then◌else◌}
+use Rattle.std.specs.Prelude.{ℕ, ◌+◌, List, Option, Some, None, if◌then◌else◌}
 use Rattle.sip_words.specs.declared.marks.Mark.{Mark}
 use Rattle.sip_words.specs.declared.marks.Setting.{Setting}
 use Rattle.sip_words.specs.declared.marks.Setting.TheVariants.{Field, Uri}

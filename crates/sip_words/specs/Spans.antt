@@ -1,5 +1,5 @@
 -- Where spans lie.
-use Rattle.std.specs.Prelude.{ℕ, ◌≤◌, ◌+◌, List, length, Option, IfSome}
+use Rattle.std.specs.Prelude.{ℕ, ◌≤◌, List, length, IfSome}
 use Rattle.sip_words.specs.declared.Span.{Span}
 use Rattle.sip_words.specs.declared.params.Param.{Param}
 use Rattle.sip_words.specs.declared.params.Params.{Params}

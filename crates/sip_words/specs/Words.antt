@@ -1,8 +1,7 @@
 -- Words, as functions of a text and a place in it: where the word that stands there ends.
-use Rattle.std.specs.Prelude.{ℕ, Bool, true, false, List, [], ◌∷◌, ◌+◌, ◌==◌, cond, drop, take, length, Option, Some, None, map, nat_lt, option_and_then, if◌then◌else◌, slice_get, slice_range, option_map}
+use Rattle.std.specs.Prelude.{ℕ, Bool, false, List, [], ◌∷◌, ◌+◌, ◌==◌, cond, drop, length, Option, Some, None, nat_lt, option_and_then, if◌then◌else◌, slice_get, slice_range, option_map}
 use Rattle.std.specs.List.{prefix_len}
 use Rattle.std.specs.Str.{str_eq_ignore_ascii_case}
-use Rattle.std.specs.Char.{to_ascii_lowercase}
 use Rattle.sip_words.specs.declared.bytes.Class.{Class}
 use Rattle.sip_words.specs.Bytes.{is_wsp, has}
 

@@ -23,6 +23,7 @@ pub enum Class {
     /// A letter, a digit, or one of `-._`: the bytes of a host.
     Name,
     Digit,
+    Letter,
     /// A letter, a digit, or one of `+-.`: the bytes of a URI's scheme, behind its first letter.
     Scheme,
     /// The bytes of a parameter's value in a field: all but `;`, `,`, `"`, `<`, `>` and those of LWS.
@@ -55,6 +56,7 @@ impl Class {
             Class::Token => b.is_ascii_alphanumeric() || b"-.!%*_+`'~".contains(&b),
             Class::Name => b.is_ascii_alphanumeric() || b"-._".contains(&b),
             Class::Digit => b.is_ascii_digit(),
+            Class::Letter => b.is_ascii_alphabetic(),
             Class::Scheme => b.is_ascii_alphanumeric() || b"+-.".contains(&b),
             Class::Value => !b";,\"<> \t\r\n".contains(&b),
             Class::UriValue => !b";,\"<> \t?".contains(&b),

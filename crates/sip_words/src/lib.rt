@@ -9,6 +9,8 @@ pub mod bytes;
 pub mod marks;
 pub mod numbers;
 pub mod params;
+#[cfg(test)]
+mod tests;
 pub mod words;
 
 pub use bytes::Class;

@@ -1,4 +1,4 @@
-use Rattle.std.proofs.Common.{ℕ, ◌<◌, ◌≡◌, length, get_or, arith}
+use Rattle.std.proofs.Common.{get_or, arith}
 use Rattle.std.proofs.lemmas.Grind.{pow_more}
 use Rattle.std.specs.Char.{IsAsciiDigit}
 use Rattle.sip_words.proofs.Digits.{digits_more}

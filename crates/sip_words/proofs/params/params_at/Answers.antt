@@ -1,6 +1,4 @@
-use Rattle.std.proofs.Common.{◌≡◌, ◌∷◌, ◌++◌, [], sym, ◌∙◌, ap, option_map, None, Option}
-use Rattle.sip_words.specs.declared.params.Params.{Params}
-use Rattle.sip_words.specs.Params.{known}
+use Rattle.std.proofs.Common.{◌∷◌, ◌++◌, [], sym}
 use Rattle.sip_words.proofs.ParamTurns.{seen_first, seen_next, seen_wrong, seen_last}
 use Rattle.sip_words.proofs.params.params_at.Goals as goal
 

@@ -1,0 +1,11 @@
+pub mod Host
+pub mod Tail
+pub mod Via
+pub mod CSeq
+pub mod Uri
+pub mod NameAddr
+pub mod Parts
+pub mod ViaGrammar
+pub mod CSeqGrammar
+pub mod UriGrammar
+pub mod NameAddrGrammar
