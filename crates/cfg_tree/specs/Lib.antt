@@ -1,1 +1,3 @@
+pub mod Transformations
 pub mod Meaning
+pub mod Small

@@ -16,7 +16,7 @@ use Rattle.pv_values.specs.declared.run.HostAsk.TheVariants.{Read, Write, Call}
 use Rattle.pv_values.specs.declared.run.HostAnswer.{HostAnswer}
 use Rattle.pv_values.specs.Values.{text_of, is_true, limited, bit, same, binary_value, negated, code_of, told_value, told_code}
 use Rattle.pv_values.specs.Matching.{matches_in}
-use Rattle.pv_values.specs.Transformations.{transformed}
+use Rattle.cfg_tree.specs.Transformations.{transformed}
 use Rattle.cfg_tree.specs.declared.script.TableUse.{TableUse}
 use Rattle.cfg_tree.specs.declared.script.TableUse.TheVariants as table
 use Rattle.cfg_tree.specs.declared.script.Part.{Part}

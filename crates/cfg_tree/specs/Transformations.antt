@@ -43,8 +43,15 @@ of_text Number text = int_or_null (number_of (Text text))
 of_text UriUser text = user_in text (uri_at text 0)
 of_text UriHost text = host_in text (uri_at text 0)
 
--- what it makes of a value: of its text, and Null stays Null
+-- what it makes of a number, which is no URI
+abbrev pub of_int : Transformation → ℤ → Val
+of_int Length n = Int (pos (length (text_of (Int n))))
+of_int Number n = Int n
+of_int UriUser n = Null
+of_int UriHost n = Null
+
+-- what it makes of a value; Null stays Null
 abbrev pub transformed : Transformation → Val → Val
 transformed tr Null = Null
-transformed tr (Int n) = of_text tr (text_of (Int n))
+transformed tr (Int n) = of_int tr n
 transformed tr (Text t) = of_text tr t

@@ -3,6 +3,7 @@
 //! The meaning of a script is `specs/Meaning.antt`: the dialogue of each of its blocks.
 #![tactic(auto)]
 
+pub mod laws;
 pub mod script;
 pub mod setting;
 

@@ -1,0 +1,39 @@
+// What small scripts mean, computed from the definition.
+
+ghost use Rattle.std.specs.Prelude.{◌≡◌, pos, negsuc, [], ◌∷◌};
+ghost use Rattle.dialogue.specs.Talk.{Ended};
+ghost use Rattle.pv_values.specs.declared.value.Val.TheVariants.{Null, Int};
+ghost use Rattle.pv_values.specs.declared.run.How.TheVariants.{Normal, Exit, LoopLimit, DepthLimit};
+ghost use Rattle.pv_values.specs.declared.run.HostAnswer.TheVariants.{Value};
+ghost use Rattle.cfg_tree.specs.Meaning.{meaning};
+ghost use Rattle.cfg_tree.specs.Small.{counts_to, route_of_0, sum_past_the_end, rest_of_seven, start, ended};
+
+/// `$var(i) = 0; while ($var(i) < 100) { $var(i) = $var(i) + 1; }`: a loop may make a hundred rounds.
+pub fn a_hundred_rounds_end_normally()
+    ensures { meaning (counts_to 100) 0 start [] ≡ ended (Int (pos 100)) Normal }
+{
+}
+
+/// The same with 101: a hundred rounds are made, and the test that holds once more ends the run.
+pub fn a_hundred_and_one_rounds_meet_the_limit()
+    ensures { meaning (counts_to 101) 0 start [] ≡ ended (Int (pos 100)) LoopLimit }
+{
+}
+
+/// `route(Z); $var(a) = 1;` with `route[Z] { return 0; }`: the code 0 ends the run, and `$rc` is 0.
+pub fn a_route_of_code_0_ends_the_run()
+    ensures { meaning route_of_0 0 start [] ≡ ended (Int (pos 0)) Exit }
+{
+}
+
+/// `if (9223372036854775807 + 1 == $null) $var(a) = 1;`: the sum is `$null`. The host is asked for `$null`.
+pub fn a_sum_past_64_bits_is_null()
+    ensures { meaning sum_past_the_end 0 start (Value Null ∷ []) ≡ ended (Int (pos 1)) Normal }
+{
+}
+
+/// `$var(a) = -7 mod 2;`: the rest has the sign of the left one.
+pub fn a_rest_has_the_left_ones_sign()
+    ensures { meaning rest_of_seven 0 start [] ≡ ended (Int (negsuc 0)) Normal }
+{
+}
