@@ -4,8 +4,15 @@
 #![tactic(auto)]
 
 pub mod laws;
+pub mod raw;
 pub mod script;
 pub mod setting;
+pub mod token;
 
+pub use raw::{
+    RawArg, RawBlock, RawCall, RawExpr, RawItem, RawScript, RawStmt, RawVariable, RouteKind,
+    Setting, Word,
+};
 pub use script::{Expr, Part, Script, Stmt, TableUse, Target};
 pub use setting::{Listen, Parameters};
+pub use token::{Keyword, Lexeme, Mark, Token, Variable};
