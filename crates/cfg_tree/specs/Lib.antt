@@ -6,3 +6,4 @@ pub mod Grammar
 pub mod Variables
 pub mod Refusals
 pub mod Names
+pub mod Functions

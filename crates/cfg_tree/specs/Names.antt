@@ -74,46 +74,50 @@ table_and_key (c ∷ cs) = if (c == 61) && begins_with 62 cs then Some ([], drop
     put_before c None = None
     put_before c (Some (front, back)) = Some (c ∷ front, back)
 
-abbrev pub host_part : PvUse → Checked Part
-host_part x = accepted (roll-Part (Part-F.Host x))
+-- a variable as one layer of its tree
+abbrev pub Layer : Type 0
+Layer = Part-F Part
+
+abbrev pub host_layer : PvUse → Checked Layer
+host_layer x = accepted (Part-F.Host x)
 
 -- a variable with an item of a table, whose key is expanded
-abbrev pub item_part : Known → (List ℕ → Checked (List Part)) → Place → TableUse → List ℕ → Checked Part
-item_part known expand at way inner =
+abbrev pub item_layer : Known → (List ℕ → Checked (List Part)) → Place → TableUse → List ℕ → Checked Layer
+item_layer known expand at way inner =
     from_some (table_and_key inner) 9 at (λ split. from_some (position (bytes_eq split.0) known.tables) 9 at (λ t.
-    one (λ key. roll-Part (Part-F.Item way t key)) (expand split.1)))
+    one (λ key. Part-F.Item way t key) (expand split.1)))
 
 -- a variable without brackets, and with them
-abbrev pub bare_part : Place → List ℕ → Checked Part
-bare_part at name =
-    if bytes_eq name (codes "rc") then accepted (roll-Part Part-F.Code)
-    else if bytes_eq name (codes "retcode") then accepted (roll-Part Part-F.Code)
-    else from_some (named name host_names) 9 at host_part
+abbrev pub bare_layer : Place → List ℕ → Checked Layer
+bare_layer at name =
+    if bytes_eq name (codes "rc") then accepted Part-F.Code
+    else if bytes_eq name (codes "retcode") then accepted Part-F.Code
+    else from_some (named name host_names) 9 at host_layer
 
-abbrev pub inner_part : Known → (List ℕ → Checked (List Part)) → Place → List ℕ → List ℕ → Checked Part
-inner_part known expand at name inner =
-    if bytes_eq name (codes "var") then from_some (some_text inner) 9 at (λ n. one (λ x. roll-Part (Part-F.Var x)) (var_number n))
-    else if bytes_eq name (codes "avp") then from_some (avp_name inner) 9 at (λ n. host_part (pv.Avp n))
-    else if bytes_eq name (codes "hdr") then from_some (some_text inner) 9 at (λ n. host_part (pv.Header n))
-    else if bytes_eq name (codes "T") then from_some (named inner suspension_names) 9 at host_part
-    else from_some (named name table_names) 9 at (λ way. item_part known expand at way inner)
+abbrev pub inner_layer : Known → (List ℕ → Checked (List Part)) → Place → List ℕ → List ℕ → Checked Layer
+inner_layer known expand at name inner =
+    if bytes_eq name (codes "var") then from_some (some_text inner) 9 at (λ n. one (λ x. Part-F.Var x) (var_number n))
+    else if bytes_eq name (codes "avp") then from_some (avp_name inner) 9 at (λ n. host_layer (pv.Avp n))
+    else if bytes_eq name (codes "hdr") then from_some (some_text inner) 9 at (λ n. host_layer (pv.Header n))
+    else if bytes_eq name (codes "T") then from_some (named inner suspension_names) 9 at host_layer
+    else from_some (named name table_names) 9 at (λ way. item_layer known expand at way inner)
 
-abbrev pub untransformed : Known → (List ℕ → Checked (List Part)) → Place → Variable → Option (List ℕ) → Checked Part
-untransformed known expand at v None = bare_part at v.name
-untransformed known expand at v (Some inner) = inner_part known expand at v.name inner
+abbrev pub untransformed : Known → (List ℕ → Checked (List Part)) → Place → Variable → Option (List ℕ) → Checked Layer
+untransformed known expand at v None = bare_layer at v.name
+untransformed known expand at v (Some inner) = inner_layer known expand at v.name inner
 
-abbrev pub transformed_part : Place → Checked Part → Option (List ℕ) → Checked Part
-transformed_part at part None = part
-transformed_part at part (Some name) =
-    both (λ tr p. roll-Part (Part-F.Transformed tr p)) (from_some (named name transformation_names) 9 at accepted) part
+abbrev pub transformed_layer : Place → Checked Layer → Option (List ℕ) → Checked Layer
+transformed_layer at layer None = layer
+transformed_layer at layer (Some name) =
+    both (λ p tr. Part-F.Transformed tr (roll-Part p)) layer (from_some (named name transformation_names) 9 at accepted)
 
 -- what a variable stands for; an unknown one, also inside its key, is refused at this place
-abbrev pub part_by : Known → (List ℕ → Checked (List Part)) → Place → Variable → Checked Part
-part_by known expand at v = transformed_part at (untransformed known expand at v v.inner) v.transformation
+abbrev pub layer_by : Known → (List ℕ → Checked (List Part)) → Place → Variable → Checked Layer
+layer_by known expand at v = transformed_layer at (untransformed known expand at v v.inner) v.transformation
 
 abbrev pub piece_part : Known → (List ℕ → Checked (List Part)) → Place → Piece → Checked Part
 piece_part known expand at (Plain t) = accepted (roll-Part (Part-F.Text t))
-piece_part known expand at (Of v) = part_by known expand at v
+piece_part known expand at (Of v) = one roll-Part (layer_by known expand at v)
 
 -- the parts of a text whose keys are nested at most so deep, which is never above its length
 unfoldable pub expansion_within : ℕ → Known → Place → List ℕ → Checked (List Part)
@@ -129,5 +133,8 @@ abbrev pub inner_length : Option (List ℕ) → ℕ
 inner_length None = 0
 inner_length (Some inner) = length inner
 
+abbrev pub layer_of : Known → Place → Variable → Checked Layer
+layer_of known at v = layer_by known (expansion_within (suc (inner_length v.inner)) known at) at v
+
 abbrev pub part_of : Known → Place → Variable → Checked Part
-part_of known at v = part_by known (expansion_within (suc (inner_length v.inner)) known at) at v
+part_of known at v = one roll-Part (layer_of known at v)
