@@ -7,3 +7,5 @@ pub mod Variables
 pub mod Refusals
 pub mod Names
 pub mod Functions
+pub mod Settings
+pub mod Checks

@@ -39,6 +39,10 @@ both f first second seen =
     let b = second a.seen in
     record { refusals = a.refusals ++ b.refusals; seen = b.seen; value = join f a.value b.value }
 
+-- three values, read one after another
+abbrev pub three : {A B C D : Type 0} → (A → B → C → D) → Checked A → Checked B → Checked C → Checked D
+three {A} {B} {C} {D} f first second third = both {A = C → D} (λ g c. g c) (both f first second) third
+
 abbrev pub one : {A B : Type 0} → (A → B) → Checked A → Checked B
 one f first seen = let a = first seen in record { refusals = a.refusals; seen = a.seen; value = option_map f a.value }
 
