@@ -1,5 +1,5 @@
 -- The checks of a tree: what is refused, which refusal is the first, and which script is accepted.
-use Rattle.std.specs.Prelude.{◌≡◌, ℕ, zero, suc, pos, ◌+◌, ◌==◌, Bool, true, false, not, ◌&&◌, nat_le, List, [], ◌∷◌, ◌++◌, map, length, position, Option, Some, None, option_map, is_some, if◌then◌else◌}
+use Rattle.std.specs.Prelude.{◌≡◌, ◌⊎◌, ℕ, zero, suc, pos, ◌+◌, ◌==◌, Bool, true, false, not, ◌&&◌, nat_le, List, [], ◌∷◌, ◌++◌, map, length, position, Option, Some, None, option_map, is_some, if◌then◌else◌}
 use Rattle.std.specs.List.{list_any, flat_map}
 use Rattle.pv_values.specs.Kinds.{is_written_in}
 use Rattle.pv_values.specs.declared.block.BlockKind.{BlockKind}
@@ -38,6 +38,7 @@ use Rattle.cfg_tree.specs.declared.script.Stmt.{Stmt}
 use Rattle.cfg_tree.specs.declared.script.Stmt.TheOpen.{Stmt-F}
 use Rattle.cfg_tree.specs.declared.script.Stmt.TheViews.{roll-Stmt}
 use Rattle.cfg_tree.specs.declared.script.Script.{Script}
+use Rattle.cfg_tree.specs.Grammar.{Derives}
 use Rattle.cfg_tree.specs.Meaning.{item_of}
 use Rattle.cfg_tree.specs.Names.{Known, Layer, layer_of, part_of}
 use Rattle.cfg_tree.specs.Functions.{function_call, block_number, pattern_number, is_same_block}
@@ -238,3 +239,22 @@ pub record IsAccepted (raw : RawScript) (script : Script) : Type 0 where
 -- this is the first refusal of the tree
 abbrev pub IsRefused : RawScript → ℕ → Place → Type 0
 IsRefused raw kind at = IsFirst (refusals_of raw) (record { kind = kind; at = at })
+
+-- ---- from tokens
+
+-- the tree of the tokens of a text of this length
+pub record IsTreeOf (tokens : List Token) (end : ℕ) (raw : RawScript) : Type 0 where
+  pub derived : Derives tokens raw.items
+  pub end_is : raw.end ≡ end
+
+-- the tokens are accepted as this script
+abbrev pub Accepted : List Token → ℕ → Script → Type 0
+Accepted tokens end script = (raw : RawScript) × IsTreeOf tokens end raw × IsAccepted raw script
+
+-- the grammar derives no tree from the tokens, which is Syntax; or else this is the first refusal of the tree
+abbrev pub IsUnderivable : List Token → ℕ → Type 0
+IsUnderivable tokens end = (raw : RawScript) → ¬ (IsTreeOf tokens end raw)
+
+abbrev pub Refused : List Token → ℕ → ℕ → Place → Type 0
+Refused tokens end kind at =
+    ((kind ≡ 3) × IsUnderivable tokens end) ⊎ ((raw : RawScript) × IsTreeOf tokens end raw × IsRefused raw kind at)

@@ -9,3 +9,4 @@ pub mod Names
 pub mod Functions
 pub mod Settings
 pub mod Checks
+pub mod SmallTrees
