@@ -191,7 +191,7 @@ bodies_in known bs = each (map (body_in known) bs)
 abbrev pub known_of : RawScript → Known
 known_of raw = record {
   blocks = map block_name (blocks_of raw.items);
-  tables = map (λ t. t.0) (settings_of raw.items).tables
+  tables = map (λ t. t.0) (settings_of raw.items).tables;
 }
 
 abbrev pub nothing_seen : Seen
@@ -224,7 +224,7 @@ script_with raw (Some bodies) (Some request) = Some (record {
   vars = length (bodies_of raw).seen.vars;
   patterns = (bodies_of raw).seen.patterns;
   tables = map (λ t. t.1) (settings_of raw.items).tables;
-  parameters = parameters_of (settings_of raw.items)
+  parameters = parameters_of (settings_of raw.items);
 })
 
 -- the script that a tree stands for

@@ -292,7 +292,7 @@ pub data ItemIs : List Token → RawItem → Type 0 where
         name = name;
         kind_at = at;
         at = whole all;
-        body = ss
+        body = ss;
       }))
 
 -- script = { param | load | modparam | block }

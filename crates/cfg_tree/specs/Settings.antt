@@ -34,7 +34,7 @@ unset = record {
   max_recursive_level = None;
   fr_timer = None;
   fr_inv_timer = None;
-  tables = []
+  tables = [];
 }
 
 -- a value where none was given before
@@ -74,13 +74,13 @@ idle_names =
 unfoldable pub with_parameter : List ℕ → Setting → Settings → Option Settings
 with_parameter name value s =
     if bytes_eq name (codes "listen") then
-      option_map (λ l. record s { listen = Some l }) (first_time s.listen (listen_in value))
+    option_map (λ l. record s { listen = Some l }) (first_time s.listen (listen_in value))
     else if bytes_eq name (codes "alias") then
-      option_map (λ host. record s { aliases = s.aliases ++ host ∷ [] }) (string_in value)
+    option_map (λ host. record s { aliases = s.aliases ++ host ∷ [] }) (string_in value)
     else if bytes_eq name (codes "max_while_loops") then
-      option_map (λ n. record s { max_while_loops = Some n }) (limit s.max_while_loops 1 1000 value)
+    option_map (λ n. record s { max_while_loops = Some n }) (limit s.max_while_loops 1 1000 value)
     else if bytes_eq name (codes "max_recursive_level") then
-      option_map (λ n. record s { max_recursive_level = Some n }) (limit s.max_recursive_level 1 1000 value)
+    option_map (λ n. record s { max_recursive_level = Some n }) (limit s.max_recursive_level 1 1000 value)
     else if list_any (bytes_eq name) idle_names then Some s
     else None
 
@@ -121,10 +121,10 @@ with_part part (Some t) =
     let n = if begins_with 61 (drop (before 61 part) part) then number_in (drop (before 61 part + 1) part) else None in
     if bytes_eq name (codes "size") then option_map (λ n. record t { size = Some n }) (first_time t.size (between 2 14 (natural n)))
     else if bytes_eq name (codes "autoexpire") then
-      option_map (λ n. record t { autoexpire = Some n }) (first_time t.autoexpire (between 0 10000000 (natural n)))
+    option_map (λ n. record t { autoexpire = Some n }) (first_time t.autoexpire (between 0 10000000 (natural n)))
     else if bytes_eq name (codes "initval") then option_map (λ n. record t { initval = Some n }) (first_time t.initval n)
     else if bytes_eq name (codes "updateexpire") then
-      option_map (λ n. record t { update = Some n }) (first_time t.update (between 1 1 (natural n)))
+    option_map (λ n. record t { update = Some n }) (first_time t.update (between 1 1 (natural n)))
     else None
 
 abbrev pub with_parts : List (List ℕ) → Option TableParts → Option TableParts
@@ -139,7 +139,7 @@ unfoldable pub table_in : List ℕ → Option (List ℕ × List ℕ) → Option 
 table_in text None = None
 table_in text (Some (name, parts)) =
     if is_name name then option_map (λ t. (name, spec_of t)) (with_parts (without_empty_end (at_semicolons parts))
-      (Some (record { size = None; autoexpire = None; initval = None; update = None })))
+    (Some (record { size = None; autoexpire = None; initval = None; update = None })))
     else None
 
 abbrev pub has_table : List ℕ → Settings → Bool
@@ -159,10 +159,10 @@ table_of_string (Some text) = table_in text (table_and_key text)
 unfoldable pub with_module_parameter : List ℕ → List ℕ → Setting → Settings → Option Settings
 with_module_parameter of name value s =
     if bytes_eq of (codes "tm") then (
-      if bytes_eq name (codes "fr_timer") then option_map (λ n. record s { fr_timer = Some n }) (limit s.fr_timer 1 3600000 value)
-      else if bytes_eq name (codes "fr_inv_timer") then
-        option_map (λ n. record s { fr_inv_timer = Some n }) (limit s.fr_inv_timer 1 3600000 value)
-      else None)
+    if bytes_eq name (codes "fr_timer") then option_map (λ n. record s { fr_timer = Some n }) (limit s.fr_timer 1 3600000 value)
+    else if bytes_eq name (codes "fr_inv_timer") then
+    option_map (λ n. record s { fr_inv_timer = Some n }) (limit s.fr_inv_timer 1 3600000 value)
+    else None)
     else if bytes_eq of (codes "htable") && bytes_eq name (codes "htable") then with_table s (table_of_string (string_in value))
     else None
 
@@ -225,5 +225,5 @@ parameters_of s = record {
   max_while_loops = unwrap_or s.max_while_loops 100;
   max_recursive_level = unwrap_or s.max_recursive_level 256;
   fr_timer = unwrap_or s.fr_timer 30000;
-  fr_inv_timer = unwrap_or s.fr_inv_timer 120000
+  fr_inv_timer = unwrap_or s.fr_inv_timer 120000;
 }

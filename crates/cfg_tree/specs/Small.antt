@@ -47,8 +47,8 @@ script_of blocks = record {
     max_while_loops = 100;
     max_recursive_level = 256;
     fr_timer = 30000;
-    fr_inv_timer = 120000
-  }
+    fr_inv_timer = 120000;
+  };
 }
 
 -- what a run has at its start

@@ -11,6 +11,12 @@ use Rattle.cfg_tree.specs.declared.raw.RawStmt.TheOpen.{RawStmt-F}
 use Rattle.cfg_tree.specs.declared.raw.RawStmt.TheViews.{roll-RawStmt}
 use Rattle.cfg_tree.specs.declared.raw.RouteKind.TheVariants.{Route, Begins}
 use Rattle.cfg_tree.specs.declared.raw.RawBlock.{RawBlock}
+use Rattle.cfg_tree.specs.declared.token.Token.{Token}
+use Rattle.cfg_tree.specs.declared.token.Lexeme.{Lexeme}
+use Rattle.cfg_tree.specs.declared.token.Lexeme.TheVariants as lexeme
+use Rattle.cfg_tree.specs.declared.token.Keyword.TheVariants as keyword
+use Rattle.cfg_tree.specs.declared.token.Mark.TheVariants as mark
+use Rattle.cfg_tree.specs.declared.raw.RawItem.{RawItem}
 use Rattle.cfg_tree.specs.declared.raw.RawItem.TheVariants as item
 use Rattle.cfg_tree.specs.declared.raw.RawScript.{RawScript}
 use Rattle.cfg_tree.specs.Refusals.{Refusal}
@@ -32,7 +38,7 @@ empty_request from = record {
   name = None;
   kind_at = at from (from + 13);
   at = at from (from + 15);
-  body = []
+  body = [];
 }
 
 -- `route[A]{}` from a place on
@@ -42,7 +48,7 @@ empty_route from = record {
   name = Some (word_at (codes "A") (from + 6) (from + 7));
   kind_at = at from (from + 5);
   at = at from (from + 10);
-  body = []
+  body = [];
 }
 
 -- no text
@@ -61,9 +67,9 @@ relays_an_event = record {
     name = Some (word_at (codes "x") 12 13);
     kind_at = at 0 11;
     at = at 0 26;
-    body = roll-RawStmt (RawStmt-F.Do (at 15 25) (call.Function (word_at (codes "t_relay") 15 22) [])) ∷ []
+    body = roll-RawStmt (RawStmt-F.Do (at 15 25) (call.Function (word_at (codes "t_relay") 15 22) [])) ∷ [];
   }) ∷ item.Block (empty_request 27) ∷ [];
-  end = 42
+  end = 42;
 }
 
 -- `loadmodule "usrloc.so"`, `request_route{}`
@@ -79,8 +85,39 @@ unknown_variable = record {
     kind_at = at 0 13;
     at = at 0 24;
     body = roll-RawStmt (RawStmt-F.Set (at 14 23)
-      (record { variable = record { name = codes "foo"; inner = None; transformation = None }; at = at 14 18 })
-      (roll-RawExpr (RawExpr-F.Variable (record { variable = record { name = codes "ru"; inner = None; transformation = None }; at = at 19 22 })))) ∷ []
+        (record { variable = record { name = codes "foo"; inner = None; transformation = None }; at = at 14 18 })
+        (roll-RawExpr (RawExpr-F.Variable (record { variable = record { name = codes "ru"; inner = None; transformation = None }; at = at 19 22 })))) ∷ [];
   }) ∷ [];
-  end = 24
+  end = 24;
 }
+
+-- ---- tokens
+
+abbrev pub token : Lexeme → ℕ → ℕ → Token
+token x from to = record { lexeme = x; at = at from to }
+
+-- `route[A]{if(!$rc)exit;else{}}`
+abbrev pub branching_tokens : List Token
+branching_tokens =
+    token (lexeme.Keyword keyword.Route) 0 5 ∷ token (lexeme.Mark mark.OpenSquare) 5 6 ∷ token (lexeme.BlockName (codes "A")) 6 7
+    ∷ token (lexeme.Mark mark.CloseSquare) 7 8 ∷ token (lexeme.Mark mark.OpenCurly) 8 9
+    ∷ token (lexeme.Keyword keyword.If) 9 11 ∷ token (lexeme.Mark mark.OpenRound) 11 12 ∷ token (lexeme.Mark mark.Not) 12 13
+    ∷ token (lexeme.Variable code) 13 16 ∷ token (lexeme.Mark mark.CloseRound) 16 17
+    ∷ token (lexeme.Keyword keyword.Exit) 17 21 ∷ token (lexeme.Mark mark.Semicolon) 21 22
+    ∷ token (lexeme.Keyword keyword.Else) 22 26 ∷ token (lexeme.Mark mark.OpenCurly) 26 27 ∷ token (lexeme.Mark mark.CloseCurly) 27 28
+    ∷ token (lexeme.Mark mark.CloseCurly) 28 29 ∷ []
+  where
+    code : Variable
+    code = record { name = codes "rc"; inner = None; transformation = None }
+
+abbrev pub branching_items : List RawItem
+branching_items = item.Block (record {
+  kind = Route;
+  name = Some (word_at (codes "A") 6 7);
+  kind_at = at 0 5;
+  at = at 0 29;
+  body = roll-RawStmt (RawStmt-F.If (at 9 28)
+    (roll-RawExpr (RawExpr-F.Not (roll-RawExpr (RawExpr-F.Variable
+      (record { variable = record { name = codes "rc"; inner = None; transformation = None }; at = at 13 16 })))))
+    (roll-RawStmt (RawStmt-F.Exit (at 17 22))) (Some (roll-RawStmt (RawStmt-F.Group (at 26 28) [])))) ∷ []
+}) ∷ []

@@ -38,11 +38,14 @@ before_close (suc opened) (c ∷ cs) =
 -- the variable `NAME(INNER)` with a name of this length, and how many bytes it takes
 abbrev pub with_inner : ℕ → List ℕ → Option ℕ → Option (Variable × ℕ)
 with_inner n text None = None
-with_inner n text (Some k) = Some (record {
-  name = take n text;
-  inner = Some (take k (drop (n + 1) text));
-  transformation = None
-}, n + k + 2)
+with_inner n text (Some k) = Some (
+  record {
+    name = take n text;
+    inner = Some (take k (drop (n + 1) text));
+    transformation = None;
+  },
+  n + k + 2,
+)
 
 -- NAME or NAME(INNER) at the beginning of a text, and how many bytes it takes
 unfoldable pub named_at : List ℕ → Option (Variable × ℕ)
