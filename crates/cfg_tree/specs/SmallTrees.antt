@@ -121,3 +121,22 @@ branching_items = item.Block (record {
       (record { variable = record { name = codes "rc"; inner = None; transformation = None }; at = at 13 16 })))))
     (roll-RawStmt (RawStmt-F.Exit (at 17 22))) (Some (roll-RawStmt (RawStmt-F.Group (at 26 28) [])))) ∷ []
 }) ∷ []
+
+-- ---- a pattern
+
+-- `request_route{if($ru=~"("){}}`
+abbrev pub no_pattern : RawScript
+no_pattern = record {
+  items = item.Block (record {
+    kind = Begins Request;
+    name = None;
+    kind_at = at 0 13;
+    at = at 0 29;
+    body = roll-RawStmt (RawStmt-F.If (at 14 28)
+      (roll-RawExpr (RawExpr-F.Matches
+        (roll-RawExpr (RawExpr-F.Variable (record { variable = record { name = codes "ru"; inner = None; transformation = None }; at = at 17 20 })))
+        (word_at (codes "(") 22 25)))
+      (roll-RawStmt (RawStmt-F.Group (at 26 28) [])) None) ∷ []
+  }) ∷ [];
+  end = 29
+}

@@ -9,7 +9,7 @@ ghost use Rattle.cfg_tree.specs.Meaning.{meaning};
 ghost use Rattle.cfg_tree.specs.Small.{counts_to, route_of_0, sum_past_the_end, rest_of_seven, start, ended};
 ghost use Rattle.cfg_tree.specs.Checks.{refusals_of};
 ghost use Rattle.cfg_tree.specs.Grammar.{Derives};
-ghost use Rattle.cfg_tree.specs.SmallTrees.{only, no_text, one_name_twice, relays_an_event, unknown_module, unknown_variable, branching_tokens, branching_items};
+ghost use Rattle.cfg_tree.specs.SmallTrees.{only, no_text, one_name_twice, relays_an_event, unknown_module, unknown_variable, branching_tokens, branching_items, no_pattern};
 
 /// `$var(i) = 0; while ($var(i) < 100) { $var(i) = $var(i) + 1; }`: a loop may make a hundred rounds.
 pub fn a_hundred_rounds_end_normally()
@@ -64,5 +64,11 @@ pub fn an_unknown_variable_is_refused()
 /// `route[A]{if(!$rc)exit;else{}}`: these tokens derive this tree.
 pub fn an_if_with_else_is_derived()
     ensures { Derives branching_tokens branching_items }
+{
+}
+
+/// `$ru =~ "("`: kind 12 at the string, which `regex`'s grammar doesn't read.
+pub fn a_text_that_is_no_pattern_is_refused()
+    ensures { refusals_of no_pattern ≡ only 12 22 25 }
 {
 }
