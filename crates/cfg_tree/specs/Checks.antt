@@ -1,12 +1,10 @@
 -- The checks of a tree: what is refused, which refusal is the first, and which script is accepted.
-use Rattle.std.specs.Prelude.{◌≡◌, ◌⊎◌, ℕ, zero, suc, pos, ◌+◌, ◌==◌, Bool, true, false, not, ◌&&◌, nat_le, List, [], ◌∷◌, ◌++◌, map, length, position, Option, Some, None, option_map, is_some, if◌then◌else◌}
+use Rattle.std.specs.Prelude.{◌≡◌, ◌⊎◌, ℕ, ◌+◌, Bool, true, false, nat_le, List, [], ◌∷◌, ◌++◌, map, length, position, Option, Some, None, option_map, if◌then◌else◌}
 use Rattle.std.specs.List.{list_any, flat_map}
 use Rattle.pv_values.specs.Kinds.{is_written_in}
 use Rattle.pv_values.specs.declared.block.BlockKind.{BlockKind}
 use Rattle.pv_values.specs.declared.block.BlockKind.TheVariants.{Request, Branch, Failure, Reply, Event}
-use Rattle.pv_values.specs.declared.operator.BinOp.{BinOp}
 use Rattle.pv_values.specs.declared.refusal.Place.{Place}
-use Rattle.pv_values.specs.declared.value.Val.{Val}
 use Rattle.pv_values.specs.declared.variable.PvUse.{PvUse}
 use Rattle.pv_values.specs.declared.variable.PvUse.TheVariants.{Myself}
 use Rattle.cfg_tree.specs.declared.token.Token.{Token}
@@ -26,7 +24,6 @@ use Rattle.cfg_tree.specs.declared.raw.RawBlock.{RawBlock}
 use Rattle.cfg_tree.specs.declared.raw.RawItem.{RawItem}
 use Rattle.cfg_tree.specs.declared.raw.RawItem.TheVariants as item
 use Rattle.cfg_tree.specs.declared.raw.RawScript.{RawScript}
-use Rattle.cfg_tree.specs.declared.script.Part.{Part}
 use Rattle.cfg_tree.specs.declared.script.Part.TheOpen.{Part-F}
 use Rattle.cfg_tree.specs.declared.script.Part.TheViews.{roll-Part}
 use Rattle.cfg_tree.specs.declared.script.Expr.{Expr}
@@ -43,7 +40,7 @@ use Rattle.cfg_tree.specs.Meaning.{item_of}
 use Rattle.cfg_tree.specs.Names.{Known, Layer, layer_of, part_of}
 use Rattle.cfg_tree.specs.Functions.{function_call, block_number, pattern_number, is_same_block}
 use Rattle.cfg_tree.specs.Settings.{settings_of, setting_refusals, parameters_of}
-use Rattle.cfg_tree.specs.Refusals.{Refusal, Seen, Outcome, Checked, accepted, refused, one, both, three, each, unless, IsFirst}
+use Rattle.cfg_tree.specs.Refusals.{Refusal, Seen, Outcome, Checked, accepted, one, both, three, each, unless, IsFirst}
 
 -- ---- expressions
 

@@ -1,5 +1,5 @@
 -- The functions of a script: their blocks, and the arguments that each of them takes.
-use Rattle.std.specs.Prelude.{ℕ, ℤ, pos, negsuc, ◌==◌, Bool, true, false, not, ◌&&◌, ◌||◌, nat_le, List, [], ◌∷◌, ◌++◌, length, position, Option, Some, None, option_map, if◌then◌else◌, codes}
+use Rattle.std.specs.Prelude.{ℕ, ℤ, pos, negsuc, ◌==◌, Bool, true, false, not, ◌&&◌, ◌||◌, nat_le, List, [], ◌∷◌, ◌++◌, length, position, Option, Some, None, if◌then◌else◌, codes}
 use Rattle.std.specs.List.{list_any}
 use Rattle.std.specs.Fmt.{signed_decimal}
 use Rattle.std.specs.Str.{bytes_eq, str_eq_ignore_ascii_case}
@@ -7,7 +7,6 @@ use Rattle.std.specs.Str.Parse.{digits_value}
 use Rattle.pv_values.specs.Kinds.{stands_in}
 use Rattle.pv_values.specs.Matching.{is_pattern}
 use Rattle.pv_values.specs.Numbers.{is_numeral}
-use Rattle.pv_values.specs.declared.block.BlockKind.{BlockKind}
 use Rattle.pv_values.specs.declared.block.BlockKind.TheVariants.{Request, Branch, Failure, Reply, Event}
 use Rattle.pv_values.specs.declared.refusal.Place.{Place}
 use Rattle.pv_values.specs.declared.function.Func.{Func}
@@ -22,7 +21,7 @@ use Rattle.cfg_tree.specs.declared.script.Part.TheOpen.{Part-F}
 use Rattle.cfg_tree.specs.declared.script.Part.TheViews.{roll-Part}
 use Rattle.cfg_tree.specs.Names.{Known, named, expansion, part_of, table_and_key}
 use Rattle.cfg_tree.specs.Variables.{begins_with}
-use Rattle.cfg_tree.specs.Refusals.{Checked, Outcome, accepted, refused, one, both, from_some, unless}
+use Rattle.cfg_tree.specs.Refusals.{Checked, accepted, refused, one, both, from_some, unless}
 
 -- a function with its literal arguments, and the parts of its expanded ones
 abbrev pub FuncWith : Type 0

@@ -1,6 +1,5 @@
 -- What the variables of a script stand for, and the texts that are expanded.
-use Rattle.std.specs.Prelude.{ℕ, zero, suc, ◌==◌, Bool, true, false, not, ◌&&◌, List, [], ◌∷◌, ◌++◌, map, length, drop, position, Option, Some, None, if◌then◌else◌, codes, is_some, is_none}
-use Rattle.std.specs.List.{list_any, find}
+use Rattle.std.specs.Prelude.{ℕ, zero, suc, ◌==◌, ◌&&◌, List, [], ◌∷◌, ◌++◌, map, length, drop, position, Option, Some, None, if◌then◌else◌, codes}
 use Rattle.std.specs.Str.{bytes_eq}
 use Rattle.pv_values.specs.declared.refusal.Place.{Place}
 use Rattle.pv_values.specs.declared.variable.PvUse.{PvUse}
@@ -15,7 +14,7 @@ use Rattle.cfg_tree.specs.declared.script.Part.{Part}
 use Rattle.cfg_tree.specs.declared.script.Part.TheOpen.{Part-F}
 use Rattle.cfg_tree.specs.declared.script.Part.TheViews.{roll-Part}
 use Rattle.cfg_tree.specs.Variables.{Piece, Plain, Of, pieces_of, begins_with}
-use Rattle.cfg_tree.specs.Refusals.{Checked, Seen, Outcome, accepted, refused, one, both, each, from_some}
+use Rattle.cfg_tree.specs.Refusals.{Checked, Outcome, accepted, refused, one, both, each, from_some}
 
 -- what is known of the whole script: its blocks with their names, in order, and the names of its tables
 pub record Known : Type 0 where

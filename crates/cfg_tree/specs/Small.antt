@@ -1,7 +1,7 @@
 -- Small scripts, whose meaning is known.
 use Rattle.std.specs.Prelude.{ℕ, pos, List, [], ◌∷◌, Some, None}
 use Rattle.pv_values.specs.declared.value.Val.{Val}
-use Rattle.pv_values.specs.declared.value.Val.TheVariants.{Null, Int}
+use Rattle.pv_values.specs.declared.value.Val.TheVariants.{Int}
 use Rattle.pv_values.specs.declared.operator.BinOp.TheVariants.{Add, Rem, Eq, Lt}
 use Rattle.pv_values.specs.declared.variable.PvUse.TheVariants as pv
 use Rattle.pv_values.specs.declared.run.Env.{Env}
@@ -10,7 +10,6 @@ use Rattle.pv_values.specs.declared.run.HostAsk.{HostAsk}
 use Rattle.pv_values.specs.declared.run.HostAnswer.{HostAnswer}
 use Rattle.dialogue.specs.Talk.{Said, Ended}
 use Rattle.cfg_tree.specs.Meaning.{End}
-use Rattle.cfg_tree.specs.declared.script.Part.{Part}
 use Rattle.cfg_tree.specs.declared.script.Part.TheOpen.{Part-F}
 use Rattle.cfg_tree.specs.declared.script.Part.TheViews.{roll-Part}
 use Rattle.cfg_tree.specs.declared.script.Expr.{Expr}

@@ -117,9 +117,9 @@ branching_items = item.Block (record {
   kind_at = at 0 5;
   at = at 0 29;
   body = roll-RawStmt (RawStmt-F.If (at 9 28)
-    (roll-RawExpr (RawExpr-F.Not (roll-RawExpr (RawExpr-F.Variable
+      (roll-RawExpr (RawExpr-F.Not (roll-RawExpr (RawExpr-F.Variable
       (record { variable = record { name = codes "rc"; inner = None; transformation = None }; at = at 13 16 })))))
-    (roll-RawStmt (RawStmt-F.Exit (at 17 22))) (Some (roll-RawStmt (RawStmt-F.Group (at 26 28) [])))) ∷ []
+      (roll-RawStmt (RawStmt-F.Exit (at 17 22))) (Some (roll-RawStmt (RawStmt-F.Group (at 26 28) [])))) ∷ [];
 }) ∷ []
 
 -- ---- a pattern
@@ -133,10 +133,10 @@ no_pattern = record {
     kind_at = at 0 13;
     at = at 0 29;
     body = roll-RawStmt (RawStmt-F.If (at 14 28)
-      (roll-RawExpr (RawExpr-F.Matches
+        (roll-RawExpr (RawExpr-F.Matches
         (roll-RawExpr (RawExpr-F.Variable (record { variable = record { name = codes "ru"; inner = None; transformation = None }; at = at 17 20 })))
         (word_at (codes "(") 22 25)))
-      (roll-RawStmt (RawStmt-F.Group (at 26 28) [])) None) ∷ []
+        (roll-RawStmt (RawStmt-F.Group (at 26 28) [])) None) ∷ [];
   }) ∷ [];
-  end = 29
+  end = 29;
 }

@@ -64,11 +64,9 @@ pub fn an_unknown_variable_is_refused()
 /// `route[A]{if(!$rc)exit;else{}}`: these tokens derive this tree.
 pub fn an_if_with_else_is_derived()
     ensures { Derives branching_tokens branching_items }
-{
-}
+{}
 
 /// `$ru =~ "("`: kind 12 at the string, which `regex`'s grammar doesn't read.
 pub fn a_text_that_is_no_pattern_is_refused()
     ensures { refusals_of no_pattern ≡ only 12 22 25 }
-{
-}
+{}

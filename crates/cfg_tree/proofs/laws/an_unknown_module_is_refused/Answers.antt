@@ -1,7 +1,5 @@
 use Rattle.std.proofs.Common.{refl}
 use Rattle.cfg_tree.specs.Checks.{refusals_of, bodies_of}
-use Rattle.cfg_tree.specs.Settings.{with_parameter, with_module_parameter, table_in}
-use Rattle.cfg_tree.specs.Names.{expansion_within}
 use Rattle.cfg_tree.proofs.laws.an_unknown_module_is_refused.Goals as goal
 
 pub returns : goal.returns

@@ -2,8 +2,6 @@ use Rattle.std.proofs.Common.{refl}
 use Rattle.cfg_tree.specs.declared.raw.RawExpr.TheFolds.{fold-roll-RawExpr}
 use Rattle.cfg_tree.specs.declared.raw.RawStmt.TheFolds.{fold-roll-RawStmt}
 use Rattle.cfg_tree.specs.Checks.{refusals_of, bodies_of}
-use Rattle.cfg_tree.specs.Settings.{with_parameter, with_module_parameter, table_in}
-use Rattle.cfg_tree.specs.Names.{expansion_within}
 use Rattle.cfg_tree.proofs.laws.an_unknown_variable_is_refused.Goals as goal
 
 pub returns : goal.returns
