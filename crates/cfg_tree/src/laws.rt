@@ -1,12 +1,15 @@
 // What small scripts mean, and what is refused of small trees, computed from the definitions.
 
-ghost use Rattle.std.specs.Prelude.{◌≡◌, pos, negsuc, [], ◌∷◌};
-ghost use Rattle.dialogue.specs.Talk.{Ended};
-ghost use Rattle.pv_values.specs.declared.value.Val.TheVariants.{Null, Int};
+ghost use Rattle.std.specs.Prelude.{◌≡◌, pos, negsuc, [], ◌∷◌, codes};
+ghost use Rattle.dialogue.specs.Talk.{Need};
+ghost use Rattle.pv_values.specs.declared.value.Val.TheVariants.{Null, Int, Text};
 ghost use Rattle.pv_values.specs.declared.run.How.TheVariants.{Normal, Exit, LoopLimit, DepthLimit};
 ghost use Rattle.pv_values.specs.declared.run.HostAnswer.TheVariants.{Value};
+ghost use Rattle.pv_values.specs.declared.run.HostAsk.TheVariants.{Read, Call};
+ghost use Rattle.pv_values.specs.declared.variable.PvUse.TheVariants.{CallId};
+ghost use Rattle.pv_values.specs.declared.function.Func.TheVariants.{Xlog};
 ghost use Rattle.cfg_tree.specs.Meaning.{meaning};
-ghost use Rattle.cfg_tree.specs.Small.{counts_to, route_of_0, sum_past_the_end, rest_of_seven, start, ended};
+ghost use Rattle.cfg_tree.specs.Small.{counts_to, route_of_0, sum_past_the_end, rest_of_seven, start, ended, calls_itself, falls_through, stops_early, logs_a_text};
 ghost use Rattle.cfg_tree.specs.Checks.{refusals_of};
 ghost use Rattle.cfg_tree.specs.Grammar.{Derives};
 ghost use Rattle.cfg_tree.specs.SmallTrees.{only, no_text, one_name_twice, relays_an_event, unknown_module, unknown_variable, branching_tokens, branching_items, no_pattern};
@@ -35,6 +38,32 @@ pub fn a_sum_past_64_bits_is_null()
 pub fn a_rest_has_the_left_ones_sign()
     ensures { meaning rest_of_seven 0 start [] ≡ ended (Int (negsuc 0)) Normal }
 {}
+
+/// `route[D]` that calls itself, where calls may be nested twice: the third call ends the run.
+pub fn a_third_nested_call_meets_the_limit()
+    ensures { meaning calls_itself 0 start [] ≡ ended (Int (pos 2)) DepthLimit }
+{
+}
+
+/// A `switch` goes on from the case that equals its value, through the next one, to `break`.
+pub fn a_case_falls_through_to_break()
+    ensures { meaning falls_through 0 start [] ≡ ended (Int (pos 7)) Normal }
+{
+}
+
+/// `0 && t_relay()` is false, and nothing is asked.
+pub fn an_and_stops_early()
+    ensures { meaning stops_early 0 start [] ≡ ended (Int (pos 0)) Normal }
+{
+}
+
+/// `xlog("$ci-$$")`: the host is asked for the variable, and then for the call with the text.
+pub fn a_text_is_expanded_from_left_to_right()
+    ensures asked { meaning logs_a_text 0 start [] ≡ Need (Read CallId) }
+    ensures called { meaning logs_a_text 0 start (Value (Text (codes "a1")) ∷ []) ≡ Need (Call Xlog
+        (Text (codes "a1-$") ∷ [])) }
+{
+}
 
 /// The empty text has no `request_route`: kind 14 at its end.
 pub fn no_text_is_refused()
