@@ -1,26 +1,24 @@
 -- Hosts: what the grammar spells is read again, and what is read is spelled by the grammar.
-use Rattle.std.proofs.Common.{◌≡◌, ◌≢◌, ℕ, zero, suc, ◌+◌, ◌-◌, ◌<◌, ◌≤◌, Bool, true, false, cond, List, [], ◌∷◌, ◌++◌, length, take, drop, ◌==◌, refl, subst, sym, ap, ◌∙◌, inl, inr, arith, Option, Some, None, append_assoc, length-append}
-use Rattle.std.specs.Prelude.{nat_lt, slice_range}
+use Rattle.std.proofs.Common.{◌≡◌, ℕ, suc, ◌+◌, Bool, true, false, List, [], ◌∷◌, ◌++◌, length, drop, ◌==◌, refl, subst, sym, ap, ◌∙◌, inl, inr, arith, Option, Some, None, append_assoc, length-append}
+use Rattle.std.specs.Prelude.{nat_lt}
 use Rattle.std.specs.Int.{w32, from_be_bytes}
 use Rattle.std.specs.List.{AllByRecursion}
-use Rattle.std.specs.Str.{str_eq_ignore_ascii_case}
 use Rattle.std.specs.Str.Parse.{digits_value}
 use Rattle.std.proofs.lemmas.Bool.{cases_Bool, eq-eqb, eqb-true, lt-ltb, ltb-true, both_ways}
 use Rattle.std.proofs.lemmas.List.{append-nil, drop_all}
 use Rattle.std.proofs.lemmas.Option.{cond_some, same_Some, none-some}
-use Rattle.sip_words.specs.declared.bytes.Class.{Class}
 use Rattle.sip_words.specs.declared.bytes.Class.TheVariants as class
 use Rattle.sip_words.specs.Bytes.{has}
-use Rattle.sip_words.specs.Words.{◌>>=◌, word_end, stands}
+use Rattle.sip_words.specs.Words.{word_end, stands}
 use Rattle.sip_words.specs.Numbers.{number_at}
 use Rattle.sip_words.specs.Grammar.{IsWord}
 use Rattle.sip_words.proofs.Steps.{bind_some}
 use Rattle.sip_words.proofs.Pieces.{behind, Ends, word_again, number_again, part_is, stands_at}
-use Rattle.sip_words.proofs.Takes.{Takes, then, word_takes, number_takes, stands_takes, part_taken}
+use Rattle.sip_words.proofs.Takes.{Takes, then, word_takes, number_takes, stands_takes}
 use Rattle.sip_fields.specs.declared.host.Host.{Host}
-use Rattle.sip_fields.specs.declared.host.Host.TheVariants.{V4, Name}
+use Rattle.sip_fields.specs.declared.host.Host.TheVariants.{Name}
 use Rattle.sip_fields.specs.Host.{octet_at, dot_end, v4_at, host_from, host_of, host_at}
-use Rattle.sip_fields.specs.Parts.{HostTree, Numbers, Named, host, IsOctet, AreOctets, IsName, IsHost, host_value}
+use Rattle.sip_fields.specs.Parts.{HostTree, Numbers, Named, host, IsOctet, AreOctets, IsHost, host_value}
 
 octet_again : (text : List ℕ) (i : ℕ) (w rest : List ℕ) → drop i text ≡ w ++ rest → IsOctet w → Ends class.Digit rest → octet_at text i ≡ Some (digits_value 10 w, i + length w)
 unfolding octet_at

@@ -1,2 +1,14 @@
 pub mod Names
+pub mod Runs
 pub mod Hosts
+pub mod Ports
+pub mod ViaAgain
+pub mod ViaTakes
+pub mod CSeqLaw
+pub mod Schemes
+pub mod UriAgain
+pub mod UriTakes
+pub mod Displays
+pub mod Addresses
+pub mod NameAddrLaw
+pub mod Laws

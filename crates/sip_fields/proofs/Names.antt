@@ -1,12 +1,12 @@
 -- Reading tokens one after the other, as a loop does.
-use Rattle.std.proofs.Common.{◌≡◌, ℕ, ◌+◌, ◌<◌, ◌≤◌, List, length, drop, refl, sym, ap, ◌∙◌, inl, inr, arith, Option, Some, None}
+use Rattle.std.proofs.Common.{◌≡◌, ℕ, ◌<◌, ◌≤◌, List, length, refl, sym, ap, ◌∙◌, inl, inr, arith, Option, Some, None}
 use Rattle.std.proofs.lemmas.Bool.{cases_lt}
 use Rattle.std.proofs.lemmas.List.{drop_all}
 use Rattle.std.specs.Option.{option_map}
 use Rattle.sip_words.specs.declared.bytes.Class.{Class}
 use Rattle.sip_words.specs.declared.bytes.Class.TheVariants.{Token}
-use Rattle.sip_words.specs.Words.{run_end, word_end, lws_len, lws_end}
-use Rattle.sip_words.specs.Many.{Next, Item, Done, Wrong, before, many, Advances}
+use Rattle.sip_words.specs.Words.{run_end, word_end, lws_end}
+use Rattle.sip_words.specs.Many.{Item, Done, before, many, Advances}
 use Rattle.sip_words.proofs.Digits.{word_is}
 use Rattle.sip_words.proofs.ManyLaws.{many_done, many_item}
 use Rattle.sip_fields.specs.NameAddr.{name_item, next_name, names_end}

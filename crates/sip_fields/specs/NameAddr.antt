@@ -1,5 +1,5 @@
 -- The fields From, To and Route, as functions of a text and the place where a value and the LWS before it begin.
-use Rattle.std.specs.Prelude.{ℕ, ◌+◌, ◌<◌, ◌≤◌, Bool, List, length, take, Option, Some, None, IfSome, if◌then◌else◌, slice_range}
+use Rattle.std.specs.Prelude.{ℕ, ◌+◌, ◌<◌, ◌≤◌, List, length, take, Option, Some, None, IfSome, if◌then◌else◌, slice_range}
 use Rattle.std.specs.Option.{option_map}
 use Rattle.sip_words.specs.declared.Span.{Span}
 use Rattle.sip_words.specs.declared.bytes.Class.TheVariants.{Token, Bare, InBrackets}
@@ -30,10 +30,10 @@ names_end text i = option_map (λ names. names.1) (many (length text) (next_name
 unfoldable pub display_end : List ℕ → ℕ → Option ℕ
 display_end text i =
     if stands 34 text i
-        then (do
-          end ← quoted_end text (i + 1)
-          Some (lws_end text end))
-        else names_end text i
+    then (do
+      end ← quoted_end text (i + 1)
+      Some (lws_end text end))
+    else names_end text i
 
 -- the place behind the < of a display name
 unfoldable pub open_at : List ℕ → ℕ → Option ℕ

@@ -1,6 +1,6 @@
 -- The grammar of a value of From, To and Route, and of what may follow it in its field (RFC 3261, sections 20.10, 20.20, 20.34 and 25.1:
 -- name-addr, addr-spec).
-use Rattle.std.specs.Prelude.{◌≡◌, ℕ, ◌+◌, ◌<◌, List, [], ◌∷◌, ◌++◌, length, drop, Option, codes}
+use Rattle.std.specs.Prelude.{◌≡◌, ℕ, ◌+◌, ◌<◌, List, [], ◌∷◌, ◌++◌, length, drop, codes}
 use Rattle.std.specs.List.{flat_map, AllByRecursion}
 use Rattle.sip_words.specs.declared.Span.{Span}
 use Rattle.sip_words.specs.declared.bytes.Class.TheVariants as class
@@ -12,14 +12,14 @@ use Rattle.sip_fields.specs.Parts.{Tail, tail, IsTail, next_place, value_of_para
 use Rattle.sip_fields.specs.UriGrammar.{AbsoluteTree, absolute, IsAbsolute, AreAll, UriTree, uri, IsUri}
 
 -- a token behind LWS
-pub record NameTree : Type 0 where
+pub record SpacedToken : Type 0 where
   pub gap : List Blank
   pub token : List ℕ
 
-abbrev pub name : NameTree → List ℕ
-name n = lws n.gap ++ n.token
+abbrev pub spaced_token : SpacedToken → List ℕ
+spaced_token n = lws n.gap ++ n.token
 
-pub record IsName (n : NameTree) : Type 0 where
+pub record IsSpacedToken (n : SpacedToken) : Type 0 where
   pub gap : 0 < length n.gap
   pub token : IsWord class.Token n.token
 
@@ -27,17 +27,17 @@ pub record IsName (n : NameTree) : Type 0 where
 pub data DisplayTree : Type 0 where
   Nothing : DisplayTree
   Quotation : List Quotable → List Blank → DisplayTree
-  Tokens : List ℕ → List NameTree → List Blank → DisplayTree
+  Tokens : List ℕ → List SpacedToken → List Blank → DisplayTree
 
 abbrev pub display : DisplayTree → List ℕ
 display Nothing = []
 display (Quotation q gap) = quoted q ++ lws gap
-display (Tokens first more gap) = first ++ (flat_map name more ++ lws gap)
+display (Tokens first more gap) = first ++ (flat_map spaced_token more ++ lws gap)
 
 abbrev pub IsDisplay : DisplayTree → Type 0
 IsDisplay Nothing = Unit {0}
 IsDisplay (Quotation q gap) = AllByRecursion IsQuotable q
-IsDisplay (Tokens first more gap) = IsWord class.Token first × AllByRecursion IsName more
+IsDisplay (Tokens first more gap) = IsWord class.Token first × AllByRecursion IsSpacedToken more
 
 -- a display name and <uri>; or a uri alone
 pub data AddressTree : Type 0 where

@@ -1,11 +1,10 @@
 -- The grammar of the parts that several values have: hosts, ports, and what stands behind a value.
-use Rattle.std.specs.Prelude.{◌≡◌, ◌≢◌, ℕ, ◌+◌, ◌<◌, ◌≤◌, List, [], ◌∷◌, ◌++◌, length, Option, Some, None}
+use Rattle.std.specs.Prelude.{◌≢◌, ℕ, ◌+◌, ◌<◌, ◌≤◌, List, [], ◌∷◌, ◌++◌, length, Option, Some, None}
 use Rattle.std.specs.Int.{w32, from_be_bytes}
 use Rattle.std.specs.Str.Parse.{digits_value}
 use Rattle.sip_words.specs.declared.Span.{Span}
 use Rattle.sip_words.specs.declared.bytes.Class.TheVariants as class
 use Rattle.sip_words.specs.declared.marks.Setting.{Setting}
-use Rattle.sip_words.specs.declared.marks.Setting.TheVariants.{Field}
 use Rattle.sip_words.specs.declared.params.Param.{Param}
 use Rattle.sip_words.specs.Grammar.{Blank, lws, NoBlank, MarkTree, mark, IsMark, IsWord}
 use Rattle.sip_fields.specs.declared.host.Host.{Host}

@@ -1,5 +1,5 @@
 -- URIs, as functions of a text and a place in it. A URI ends where the text ends.
-use Rattle.std.specs.Prelude.{ℕ, ◌+◌, ◌==◌, Bool, true, false, List, length, Option, Some, None, IfSome, is_some, nat_lt, if◌then◌else◌, slice_range, codes}
+use Rattle.std.specs.Prelude.{ℕ, ◌+◌, ◌==◌, Bool, false, List, length, Option, Some, None, IfSome, is_some, nat_lt, if◌then◌else◌, slice_range, codes}
 use Rattle.std.specs.Str.{str_eq_ignore_ascii_case}
 use Rattle.sip_words.specs.declared.Span.{Span}
 use Rattle.sip_words.specs.declared.bytes.Class.TheVariants.{Letter, Scheme, User, Password, BeforeAt}

@@ -75,7 +75,8 @@ behind_login t = host t.host ++ (port t.port ++ (params t.params ++ headers t.he
 
 -- a user stands exactly where an @ comes
 pub record IsSip (t : SipTree) : Type 0 where
-  pub scheme : scheme_of t.scheme ≢ Other
+  pub scheme : IsScheme t.scheme
+  pub kind : scheme_of t.scheme ≢ Other
   pub login : IfSome t.login IsLogin
   pub no_login : IfNone t.login (AreAll BeforeAt (behind_login t))
   pub host : IsHost t.host
@@ -92,7 +93,7 @@ uri (OtherUri t) = absolute t
 
 pub record IsOther (t : AbsoluteTree) : Type 0 where
   pub absolute : IsAbsolute t
-  pub scheme : scheme_of t.scheme ≡ Other
+  pub kind : scheme_of t.scheme ≡ Other
 
 abbrev pub IsUri : UriTree → Type 0
 IsUri (SipUri t) = IsSip t

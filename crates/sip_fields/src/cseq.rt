@@ -1,12 +1,12 @@
 ghost use Rattle.std.specs.Prelude.{◌≡◌, ◌≤◌, ◌<◌, length, take, IfSome, IfOk, Ok};
 ghost use Rattle.sip_fields.specs.Tail.{or_bad};
 ghost use Rattle.sip_fields.specs.CSeq.{cseq_at, IsCSeqBetween};
+ghost use Rattle.sip_fields.specs.CSeqGrammar.{IsCSeqAt};
 
+use crate::tail::Bad;
 use sip_words::numbers::number_at;
 use sip_words::words::{gap_end, lws_end, word_end};
 use sip_words::{Class, Span};
-
-use crate::tail::Bad;
 
 /// The value of CSeq: a number below 2^31, and the method.
 #[derive(Clone, Copy, Debug, PartialEq, Eq)]
@@ -44,6 +44,10 @@ fn cseq_at(text: &[u8], from: usize) -> Option<CSeq>
 pub fn read_cseq(b: &[u8], at: Span) -> Result<CSeq, Bad>
     requires order { at.from ≤ at.to }
     requires within { at.to ≤ length b.now }
+    // What is read is spelled by the grammar, each span being the place of its part.
+    ensures found { IfOk result (IsCSeqAt (take at.to b.now) at.from) }
+    // What the grammar spells is read, and nothing else can be.
+    ensures only { (v : CSeq) → IsCSeqAt (take at.to b.now) at.from v → result ≡ Ok v }
     // The same as a function.
     ensures exact { result ≡ or_bad (cseq_at (take at.to b.now) at.from) }
     // Each span lies in this part of the bytes.

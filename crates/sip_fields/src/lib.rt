@@ -9,6 +9,8 @@ mod cseq;
 mod host;
 mod name_addr;
 mod tail;
+#[cfg(test)]
+mod tests;
 mod uri;
 mod via;
 

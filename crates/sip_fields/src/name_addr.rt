@@ -2,13 +2,13 @@ ghost use Rattle.std.specs.Prelude.{◌≡◌, ◌≤◌, ◌<◌, length, take,
 ghost use Rattle.sip_words.specs.Spans.{IsBetween};
 ghost use Rattle.sip_fields.specs.Tail.{or_bad};
 ghost use Rattle.sip_fields.specs.NameAddr.{names_end, display_end, open_at, closed_uri, bare_uri, any_uri, route_uri, tag_of, rest_at, name_addr_at, route_at, IsNameAddrBetween};
-
-use sip_words::params::params_at;
-use sip_words::words::{lws_end, quoted_end, run_end, stands, word_end};
-use sip_words::{Class, Setting, Span};
+ghost use Rattle.sip_fields.specs.NameAddrGrammar.{IsNameAddrAt, IsRouteAt};
 
 use crate::tail::{Bad, next_at};
 use crate::uri::{is_absolute, uri_at};
+use sip_words::params::params_at;
+use sip_words::words::{lws_end, quoted_end, run_end, stands, word_end};
+use sip_words::{Class, Setting, Span};
 
 /// A value of From, To or Route: a URI, and what stands round it.
 #[derive(Clone, Copy, Debug, PartialEq, Eq)]
@@ -172,6 +172,10 @@ fn route_at(text: &[u8], from: usize) -> Option<NameAddr>
 pub fn read_name_addr(b: &[u8], at: Span) -> Result<NameAddr, Bad>
     requires order { at.from ≤ at.to }
     requires within { at.to ≤ length b.now }
+    // What is read is spelled by the grammar, each span being the place of its part.
+    ensures found { IfOk result (IsNameAddrAt (take at.to b.now) at.from) }
+    // What the grammar spells is read, and nothing else can be.
+    ensures only { (v : NameAddr) → IsNameAddrAt (take at.to b.now) at.from v → result ≡ Ok v }
     // The same as a function.
     ensures exact { result ≡ or_bad (name_addr_at (take at.to b.now) at.from) }
     // Each span lies in this part of the bytes.
@@ -184,6 +188,10 @@ pub fn read_name_addr(b: &[u8], at: Span) -> Result<NameAddr, Bad>
 pub fn read_route(b: &[u8], at: Span) -> Result<NameAddr, Bad>
     requires order { at.from ≤ at.to }
     requires within { at.to ≤ length b.now }
+    // What is read is spelled by the grammar, each span being the place of its part.
+    ensures found { IfOk result (IsRouteAt (take at.to b.now) at.from) }
+    // What the grammar spells is read, and nothing else can be.
+    ensures only { (v : NameAddr) → IsRouteAt (take at.to b.now) at.from v → result ≡ Ok v }
     // The same as a function.
     ensures exact { result ≡ or_bad (route_at (take at.to b.now) at.from) }
     // Each span lies in this part of the bytes.

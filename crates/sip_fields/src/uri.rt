@@ -3,14 +3,14 @@ ghost use Rattle.sip_words.specs.Spans.{IsBetween};
 ghost use Rattle.sip_fields.specs.Tail.{or_bad};
 ghost use Rattle.sip_fields.specs.Uri.{scheme_end, is_absolute, scheme_of, other_at, password_end, user_at, login_at, sip_at, uri_at, IsUriBetween};
 ghost use Rattle.sip_fields.specs.declared.uri.Scheme.TheVariants.{Other};
+ghost use Rattle.sip_fields.specs.UriGrammar.{IsUriAt};
 
+use crate::host::{Host, host_at, port_at};
+use crate::tail::Bad;
 use sip_words::marks::mark_at;
 use sip_words::params::params_at;
 use sip_words::words::{run_end, same_word, stands, word_end};
 use sip_words::{Class, Setting, Span};
-
-use crate::host::{Host, host_at, port_at};
-use crate::tail::Bad;
 
 /// The scheme of a URI, whose case is ignored.
 #[derive(Clone, Copy, Debug, PartialEq, Eq)]
@@ -180,6 +180,10 @@ pub fn uri_at(text: &[u8], from: usize) -> Option<Uri>
 pub fn read_uri(b: &[u8], at: Span) -> Result<Uri, Bad>
     requires order { at.from ≤ at.to }
     requires within { at.to ≤ length b.now }
+    // What is read is spelled by the grammar, each span being the place of its part.
+    ensures found { IfOk result (IsUriAt (take at.to b.now) at.from) }
+    // What the grammar spells is read, and nothing else can be.
+    ensures only { (v : Uri) → IsUriAt (take at.to b.now) at.from v → result ≡ Ok v }
     // The same as a function.
     ensures exact { result ≡ or_bad (uri_at (take at.to b.now) at.from) }
     // Each span lies in this part of the bytes.

@@ -2,14 +2,14 @@ ghost use Rattle.std.specs.Prelude.{◌≡◌, ◌≤◌, ◌<◌, length, take,
 ghost use Rattle.sip_words.specs.Spans.{IsBetween, HasParts};
 ghost use Rattle.sip_fields.specs.Tail.{or_bad};
 ghost use Rattle.sip_fields.specs.Via.{protocol_at, branch_of, rport_of, received_of, via_at, IsRportBetween, IsViaBetween};
+ghost use Rattle.sip_fields.specs.ViaGrammar.{IsViaAt};
 
+use crate::host::{Host, host_at, port_at};
+use crate::tail::{Bad, next_at};
 use sip_words::marks::mark_at;
 use sip_words::params::params_at;
 use sip_words::words::{gap_end, is_all, lws_end, word_at, word_end};
 use sip_words::{Class, Param, Setting, Span};
-
-use crate::host::{Host, host_at, port_at};
-use crate::tail::{Bad, next_at};
 
 /// The parameter `rport` of a Via value (RFC 3581).
 #[derive(Clone, Copy, Debug, PartialEq, Eq)]
@@ -128,6 +128,10 @@ fn via_at(text: &[u8], from: usize) -> Option<Via>
 pub fn read_via(b: &[u8], at: Span) -> Result<Via, Bad>
     requires order { at.from ≤ at.to }
     requires within { at.to ≤ length b.now }
+    // What is read is spelled by the grammar, each span being the place of its part.
+    ensures found { IfOk result (IsViaAt (take at.to b.now) at.from) }
+    // What the grammar spells is read, and nothing else can be.
+    ensures only { (v : Via) → IsViaAt (take at.to b.now) at.from v → result ≡ Ok v }
     // The same as a function.
     ensures exact { result ≡ or_bad (via_at (take at.to b.now) at.from) }
     // Each span lies in this part of the bytes.
