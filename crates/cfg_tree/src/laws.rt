@@ -42,28 +42,24 @@ pub fn a_rest_has_the_left_ones_sign()
 /// `route[D]` that calls itself, where calls may be nested twice: the third call ends the run.
 pub fn a_third_nested_call_meets_the_limit()
     ensures { meaning calls_itself 0 start [] ≡ ended (Int (pos 2)) DepthLimit }
-{
-}
+{}
 
 /// A `switch` goes on from the case that equals its value, through the next one, to `break`.
 pub fn a_case_falls_through_to_break()
     ensures { meaning falls_through 0 start [] ≡ ended (Int (pos 7)) Normal }
-{
-}
+{}
 
 /// `0 && t_relay()` is false, and nothing is asked.
 pub fn an_and_stops_early()
     ensures { meaning stops_early 0 start [] ≡ ended (Int (pos 0)) Normal }
-{
-}
+{}
 
 /// `xlog("$ci-$$")`: the host is asked for the variable, and then for the call with the text.
 pub fn a_text_is_expanded_from_left_to_right()
     ensures asked { meaning logs_a_text 0 start [] ≡ Need (Read CallId) }
     ensures called { meaning logs_a_text 0 start (Value (Text (codes "a1")) ∷ []) ≡ Need (Call Xlog
         (Text (codes "a1-$") ∷ [])) }
-{
-}
+{}
 
 /// The empty text has no `request_route`: kind 14 at its end.
 pub fn no_text_is_refused()

@@ -1,5 +1,4 @@
 use Rattle.std.proofs.Common.{refl}
-use Rattle.cfg_tree.specs.declared.script.Part.TheFolds.{fold-roll-Part}
 use Rattle.cfg_tree.specs.declared.script.Expr.TheFolds.{fold-roll-Expr}
 use Rattle.cfg_tree.specs.declared.script.Stmt.TheFolds.{fold-roll-Stmt}
 use Rattle.cfg_tree.proofs.laws.an_and_stops_early.Goals as goal
