@@ -8,6 +8,7 @@ pub mod raw;
 pub mod script;
 pub mod setting;
 pub mod token;
+pub mod transformation;
 
 pub use raw::{
     RawArg, RawBlock, RawCall, RawExpr, RawItem, RawScript, RawStmt, RawVariable, RouteKind,
@@ -16,3 +17,7 @@ pub use raw::{
 pub use script::{Expr, Part, Script, Stmt, TableUse, Target};
 pub use setting::{Listen, Parameters};
 pub use token::{Keyword, Lexeme, Mark, Token, Variable};
+pub use transformation::transform;
+
+#[cfg(test)]
+mod tests;
