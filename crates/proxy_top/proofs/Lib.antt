@@ -4,3 +4,6 @@ mod Sound
 mod Pieces
 mod Run
 mod Scripts
+mod Three
+mod Statuses
+mod Causes

@@ -9,3 +9,4 @@ pub mod Solo
 pub mod Handled
 pub mod Script
 pub mod Commands
+pub mod Endings
