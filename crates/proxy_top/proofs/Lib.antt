@@ -1,4 +1,5 @@
 mod Digits
+mod Addresses
 mod Drafts
 mod Sound
 mod Pieces
