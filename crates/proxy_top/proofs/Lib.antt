@@ -1,5 +1,6 @@
 mod Digits
 mod Addresses
+mod Lines
 mod Drafts
 mod Sound
 mod Pieces
