@@ -10,7 +10,7 @@ use Rattle.std.specs.Net.Addr.{ipv4_bits, ipv4_octets}
 use Rattle.std.specs.declared.net.ipv4_addr.Ipv4Addr.{Ipv4Addr}
 use Rattle.std.specs.Str.Parse.{AllDigits, digits_value}
 use Rattle.std.proofs.lemmas.Str.Parse.{IsNumeralModel, numerals_by_value, tells_digits, not_in_digits}
-use Rattle.std.proofs.lemmas.Fmt.{decimal_is_IsNumeral}
+use Rattle.std.proofs.lemmas.Fmt.{decimal_is_IsNumeral, decimal_injective}
 use Rattle.std.proofs.lemmas.List.Elements.{All-from_get_or, All-append, All-cons, All-head, All-tail}
 use Rattle.proxy_top.specs.Numerals.{dotted, socket, IsSocket}
 use Rattle.proxy_top.specs.Splits.{SplitsAt, Lacks}
@@ -99,3 +99,31 @@ no_colon word address lacks h = not_split 58 word (dotted address.ip) (decimal a
 pub where_none : {A : Type 0} (o : Option A) (P : Type 0) → P → IfNone o P
 where_none None P h = h
 where_none (Some a) P h = tt
+
+-- a word is one address at most
+octets_back : (ip ip' : ℕ) → ip < 2 ^ 32 → ip' < 2 ^ 32 → ip / 16777216 % 256 ≡ ip' / 16777216 % 256 → ip / 65536 % 256 ≡ ip' / 65536 % 256
+    → ip / 256 % 256 ≡ ip' / 256 % 256 → ip % 256 ≡ ip' % 256 → ip ≡ ip'
+octets_back ip ip' l l' a b c d = omega arith
+
+octet_lacks : (n : ℕ) → Lacks 46 (decimal (n % 256))
+octet_lacks n = decimal_lacks 46 (n % 256) (omega arith) (λ h. omega arith)
+
+same_octet : (m n : ℕ) → decimal (m % 256) ≡ decimal (n % 256) → m % 256 ≡ n % 256
+same_octet m n e = decimal_injective (m % 256) (n % 256) (omega arith) (omega arith) e
+
+same_ip : (ip ip' : ℕ) → ip < 2 ^ 32 → ip' < 2 ^ 32 → dotted ip ≡ dotted ip' → ip ≡ ip'
+same_ip ip ip' l l' e =
+    let a = split_one_way 46 (decimal (ip / 16777216 % 256)) _ (decimal (ip' / 16777216 % 256)) _ e (octet_lacks (ip / 16777216)) (octet_lacks (ip' / 16777216)) in
+    let b = split_one_way 46 (decimal (ip / 65536 % 256)) _ (decimal (ip' / 65536 % 256)) _ a.1 (octet_lacks (ip / 65536)) (octet_lacks (ip' / 65536)) in
+    let c = split_one_way 46 (decimal (ip / 256 % 256)) (decimal (ip % 256)) (decimal (ip' / 256 % 256)) (decimal (ip' % 256)) b.1 (octet_lacks (ip / 256)) (octet_lacks (ip' / 256)) in
+    octets_back ip ip' l l' (same_octet (ip / 16777216) (ip' / 16777216) a.0) (same_octet (ip / 65536) (ip' / 65536) b.0)
+    (same_octet (ip / 256) (ip' / 256) c.0) (same_octet ip ip' c.1)
+
+pub same_socket : (word word' : List ℕ) (a a' : Addr) → IsSocket word a → IsSocket word' a' → word ≡ word' → a ≡ a'
+same_socket word word' a a' h h' e =
+    let same : socket a ≡ socket a' = sym h.3 ∙ e ∙ h'.3 in
+    let parts = split_one_way 58 (dotted a.ip) (decimal a.port) (dotted a'.ip) (decimal a'.port) same (dotted_lacks a.ip) (dotted_lacks a'.ip) in
+    let ip : a.ip ≡ a'.ip = same_ip a.ip a'.ip h.0 h'.0 parts.0 in
+    let port : a.port ≡ a'.port = decimal_injective a.port a'.port (omega arith) (omega arith) parts.1 in
+    let made : ℕ → ℕ → Addr = λ i p. record { ip = i; port = p } in
+    ap (λ i. made i a.port) ip ∙ ap (λ p. made a'.ip p) port
