@@ -1,4 +1,8 @@
 mod Digits
+mod Addresses
+mod Lines
+mod Reading
+pub mod Once
 mod Drafts
 mod Sound
 mod Pieces

@@ -8,6 +8,7 @@ ghost use Rattle.proxy_top.specs.Splits.{SplitsAt, Lacks};
 
 use outside_ports::Addr;
 use std::alloc::{AllocError as NoMemory, Global};
+use std::net::Ipv4Addr;
 
 /// Whether the word is `0`, or begins with a byte above `0`.
 fn begins_number(word: &[u8]) -> bool
@@ -39,23 +40,15 @@ pub fn split_once(bytes: &[u8], byte: u8) -> Option<(&[u8], &[u8])>
     Some((&bytes[..at], &bytes[at + 1..]))
 }
 
-#[tactic(auto, using(crate::proofs::Digits::same_number))]
-fn octet(word: &[u8]) -> Option<u8>
-    ensures found { IfSome result (λ n. word.now ≡ decimal n) }
-    ensures none { IfNone result ((n : ℕ) → n < 256 → word.now ≡ decimal n → ⊥) }
-{
-    match number(word) {
-        Some(n) if n < 256 => Some(n as u8),
-        _ => None,
-    }
-}
-
 /// Four numbers 0 to 255 with dots, the first one highest.
-fn ip(word: &[u8]) -> Option<u32> {
-    let (a, rest) = split_once(word, b'.')?;
-    let (b, rest) = split_once(rest, b'.')?;
-    let (c, d) = split_once(rest, b'.')?;
-    Some(u32::from_be_bytes([octet(a)?, octet(b)?, octet(c)?, octet(d)?]))
+fn ip(word: &[u8]) -> Option<u32>
+    ensures found { IfSome result (λ ip. word.now ≡ dotted ip) }
+    ensures none { IfNone result ((ip : ℕ) → ip < 2 ^ 32 → word.now ≡ dotted ip → ⊥) }
+{
+    match Ipv4Addr::parse_ascii(word) {
+        Ok(address) => Some(address.to_bits()),
+        Err(_) => None,
+    }
 }
 
 #[tactic(auto, using(crate::proofs::Digits::same_number))]
@@ -70,7 +63,10 @@ fn port(word: &[u8]) -> Option<u16>
 }
 
 /// An address `IP:PORT`, with a port from 1 on.
-pub fn address(word: &[u8]) -> Option<Addr> {
+pub fn address(word: &[u8]) -> Option<Addr>
+    ensures found { IfSome result (IsSocket word.now) }
+    ensures none { IfNone result ((address : Address) → IsSocket word.now address → ⊥) }
+{
     let (front, back) = split_once(word, b':')?;
     Some(Addr {
         ip: ip(front)?,

@@ -1,8 +1,10 @@
 //! The lines of a scenario.
 
-ghost use Rattle.std.specs.Prelude.{◌≡◌, ◌≤◌, ◌++◌, None, OnOk, Err, All, IfOk};
+ghost use Rattle.std.specs.Prelude.{◌≡◌, ◌≤◌, ◌++◌, ℕ, None, OnOk, Err, All, IfOk, IfSome, IfNone};
+ghost use Rattle.outside_ports.specs.declared.port.Addr.{Addr as Address};
 ghost use Rattle.outside_ports.specs.MemPort.{IsInOrder, IsShort};
-ghost use Rattle.proxy_top.specs.Scenario.{State, Takes, Fits, last_moment, nothing_read};
+ghost use Rattle.proxy_top.specs.declared.scenario.Line.{Line as LineForm};
+ghost use Rattle.proxy_top.specs.Scenario.{State, IsLine, Takes, IsScenario, IsFirstWrong, last_moment, nothing_read};
 ghost use Rattle.proxy_top.specs.Draft.{IsDraft, shown, pending_arrival};
 
 use crate::numbers::{address, number, split_once};
@@ -42,8 +44,11 @@ enum Line<'a> {
     Skipped,
 }
 
-/// The line that these bytes are, without LF.
-fn read_line(line: &[u8]) -> Option<Line<'_>> {
+/// The line that these bytes are, without LF; none where they are in no form.
+fn read_line(line: &[u8]) -> Option<Line<'_>>
+    ensures found { IfSome result (IsLine line.now) }
+    ensures none { IfNone result ((l : LineForm) → IsLine line.now l → ⊥) }
+{
     match line {
         [] | [b'#', ..] => Some(Line::Skipped),
         [b'|', text @ ..] => Some(Line::Text(text)),
@@ -52,12 +57,20 @@ fn read_line(line: &[u8]) -> Option<Line<'_>> {
     }
 }
 
-fn read_end(line: &[u8]) -> Option<Line<'_>> {
+/// The line `end MS`.
+fn read_end(line: &[u8]) -> Option<Line<'_>>
+    ensures found { IfSome result (IsLine line.now) }
+    ensures none { IfNone result ((at : ℕ) → IsLine line.now (Line.End at) → ⊥) }
+{
     let at = number(line.strip_prefix(b"end ")?)?;
     Some(Line::End { at })
 }
 
-fn read_in(line: &[u8]) -> Option<Line<'_>> {
+/// The line `in MS IP:PORT`.
+fn read_in(line: &[u8]) -> Option<Line<'_>>
+    ensures found { IfSome result (IsLine line.now) }
+    ensures none { IfNone result ((at : ℕ) (from : Address) → IsLine line.now (Line.In at from) → ⊥) }
+{
     let (at, from) = split_once(line.strip_prefix(b"in ")?, b' ')?;
     Some(Line::In {
         at: number(at)?,
@@ -207,6 +220,8 @@ impl Draft {
 
 /// Reads a scenario, whose lines each end with LF.
 pub fn read_scenario(alloc: Global, text: &[u8]) -> Result<Scenario, ScenarioFault>
+    ensures read { IfOk result (λ s. IsScenario text.now s.arrivals.items s.end) }
+    ensures wrong { (number : ℕ) → result ≡ Err (ScenarioFault.Line number) → IsFirstWrong text.now number }
     ensures in_order { IfOk result (λ s. IsInOrder s.arrivals.items s.end) }
     ensures short { IfOk result (λ s. All IsShort s.arrivals.items) }
     ensures day { IfOk result (λ s. s.end ≤ 86400000) }
