@@ -11,8 +11,22 @@ use Rattle.proxy_top.specs.Commands.{sim_words, IsNoCommand}
 use Rattle.proxy_top.specs.Script.{IsScript}
 use Rattle.proxy_top.specs.Scenario.{IsScenario, IsFirstWrong}
 use Rattle.proxy_top.specs.Endings.{
-  ReadsScript, IsEnding, IsDone, IsRefused, IsWrongLine, IsUnread, Fails, RunsOut, IsReported, IsEnd, Gives, status_of, Tells, IsReady,
-  IsInNoForm, IsInWrongLine
+  ReadsScript,
+  IsEnding,
+  IsDone,
+  IsRefused,
+  IsWrongLine,
+  IsUnread,
+  Fails,
+  RunsOut,
+  IsReported,
+  IsEnd,
+  Gives,
+  status_of,
+  Tells,
+  IsReady,
+  IsInNoForm,
+  IsInWrongLine,
 }
 use Rattle.proxy_top.proofs.Once.{scenario_not_wrong}
 
@@ -42,8 +56,8 @@ not_refused : (words : List (List ℕ)) (folder : Option Folder) (script scenari
 not_refused words folder script scenario text answer w t accepted r =
     let same = same_words script scenario r.script r.scenario (sym w ∙ r.words_are) in
     elim r.refused [
-      inl h ↦ h.2 answer (subst (λ x. IsScript x answer) (sym (held_once folder script r.script 1048576 text h.0 t same.0 h.1)) accepted)
-    | inr h ↦ not_longer folder script r.script 1048576 text t same.0 h
+      | inl h ↦ h.2 answer (subst (λ x. IsScript x answer) (sym (held_once folder script r.script 1048576 text h.0 t same.0 h.1)) accepted)
+      | inr h ↦ not_longer folder script r.script 1048576 text t same.0 h
     ]
 
 -- a script in no form isn't read
@@ -57,9 +71,9 @@ not_wrong : (words : List (List ℕ)) (folder : Option Folder) (r : IsReady word
 not_wrong words folder r line w =
     let same = same_words r.script r.scenario w.script w.scenario (sym r.words_are ∙ w.words_are) in
     elim w.wrong [
-      inl h ↦ scenario_not_wrong r.lines r.arrivals r.end line r.reads
+      | inl h ↦ scenario_not_wrong r.lines r.arrivals r.end line r.reads
           (subst (λ x. IsFirstWrong x line) (held_once folder r.scenario w.scenario 4194304 r.lines h.0 r.told same.1 h.1) h.2)
-    | inr h ↦ not_longer folder r.scenario w.scenario 4194304 r.lines r.told same.1 h.1
+      | inr h ↦ not_longer folder r.scenario w.scenario 4194304 r.lines r.told same.1 h.1
     ]
 
 -- a scenario with a wrong line isn't read
@@ -112,9 +126,9 @@ no_form words folder f g old new c d status (inl h) r still calm = inl (no_form_
 no_form words folder f g old new c d status (inr (inl h)) r still calm = absurd (calm h.rose)
 no_form words folder f g old new c d status (inr (inr h)) r still calm = inr h.is
 
-pub in_wrong_line : (words : List (List ℕ)) (folder : Option Folder) (f g : ℕ) (old new : Option (List ℕ)) (c d status : ℕ)
+pub wrong_line_only : (words : List (List ℕ)) (folder : Option Folder) (f g : ℕ) (old new : Option (List ℕ)) (c d status : ℕ)
     → IsEnd words folder f g old new c d status → (line : ℕ) → IsInWrongLine words folder line → Gives 3 f g c d status
-in_wrong_line words folder f g old new c d status (inl h) line r still calm =
+wrong_line_only words folder f g old new c d status (inl h) line r still calm =
     inl (wrong_in words folder f g status line h.ending r still h.status_is h.ends)
-in_wrong_line words folder f g old new c d status (inr (inl h)) line r still calm = absurd (calm h.rose)
-in_wrong_line words folder f g old new c d status (inr (inr h)) line r still calm = inr h.is
+wrong_line_only words folder f g old new c d status (inr (inl h)) line r still calm = absurd (calm h.rose)
+wrong_line_only words folder f g old new c d status (inr (inr h)) line r still calm = inr h.is

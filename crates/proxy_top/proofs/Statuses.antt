@@ -1,6 +1,5 @@
 -- What each status of a command says, from how the command ended.
 use Rattle.std.proofs.Common.{◌≡◌, ℕ, ◌<◌, ◌⊎◌, inl, inr, [], List, Option, arith}
-use Rattle.std.specs.Prelude.{¬◌}
 use Rattle.std.specs.String.{string_bytes}
 use Rattle.outside_ports.specs.Counts.{Rises}
 use Rattle.outside_ports.specs.Told.{Grows}
@@ -9,8 +8,24 @@ use Rattle.proxy_top.specs.declared.top.Ending.{Ending}
 use Rattle.proxy_top.specs.declared.top.Ending.TheVariants.{Done, Usage, Refused, WrongLine, Unread}
 use Rattle.proxy_top.specs.Commands.{IsNoCommand}
 use Rattle.proxy_top.specs.Endings.{
-  IsEnding, IsDone, IsRefused, IsWrongLine, IsUnread, Fails, RunsOut, IsReported, IsEnd, IsStatus, Gives, status_of, text_of,
-  usage_line, refused_line, wrong_line, unread_line, memory_line
+  IsEnding,
+  IsDone,
+  IsRefused,
+  IsWrongLine,
+  IsUnread,
+  Fails,
+  RunsOut,
+  IsReported,
+  IsEnd,
+  IsStatus,
+  Gives,
+  status_of,
+  text_of,
+  usage_line,
+  refused_line,
+  wrong_line,
+  unread_line,
+  memory_line,
 }
 
 -- below 5 the status is that of an ending
@@ -22,10 +37,10 @@ reported words folder f g old new c d status (inr (inr h)) low = absurd (omega (
 done_in : (words : List (List ℕ)) (folder : Option Folder) (f g : ℕ) (old new : Option (List ℕ)) (status : ℕ) (ending : Ending)
     → status ≡ status_of ending → IsEnding words folder f g ending → Grows old new (text_of ending) → status ≡ 0 → (text : List ℕ) × IsDone words folder text × Grows old new text
 done_in words folder f g old new status (Done printed) is ends text e = (printed.items, ends, text)
-done_in words folder f g old new status Usage is ends text e = absurd (omega (is, e))
-done_in words folder f g old new status Refused is ends text e = absurd (omega (is, e))
-done_in words folder f g old new status (WrongLine line) is ends text e = absurd (omega (is, e))
-done_in words folder f g old new status (Unread name) is ends text e = absurd (omega (is, e))
+done_in words folder f g old new status Usage is ends text e = absurd (omega (arith, is, e))
+done_in words folder f g old new status Refused is ends text e = absurd (omega (arith, is, e))
+done_in words folder f g old new status (WrongLine line) is ends text e = absurd (omega (arith, is, e))
+done_in words folder f g old new status (Unread name) is ends text e = absurd (omega (arith, is, e))
 
 pub done : (words : List (List ℕ)) (folder : Option Folder) (f g : ℕ) (old new : Option (List ℕ)) (c d status : ℕ) → IsEnd words folder f g old new c d status → status ≡ 0
     → (text : List ℕ) × IsDone words folder text × Grows old new text
@@ -34,11 +49,11 @@ done words folder f g old new c d status h e =
 
 usage_in : (words : List (List ℕ)) (folder : Option Folder) (f g : ℕ) (old new : Option (List ℕ)) (status : ℕ) (ending : Ending)
     → status ≡ status_of ending → IsEnding words folder f g ending → Grows old new (text_of ending) → status ≡ 1 → IsNoCommand words × Grows old new usage_line
-usage_in words folder f g old new status (Done printed) is ends text e = absurd (omega (is, e))
+usage_in words folder f g old new status (Done printed) is ends text e = absurd (omega (arith, is, e))
 usage_in words folder f g old new status Usage is ends text e = (ends, text)
-usage_in words folder f g old new status Refused is ends text e = absurd (omega (is, e))
-usage_in words folder f g old new status (WrongLine line) is ends text e = absurd (omega (is, e))
-usage_in words folder f g old new status (Unread name) is ends text e = absurd (omega (is, e))
+usage_in words folder f g old new status Refused is ends text e = absurd (omega (arith, is, e))
+usage_in words folder f g old new status (WrongLine line) is ends text e = absurd (omega (arith, is, e))
+usage_in words folder f g old new status (Unread name) is ends text e = absurd (omega (arith, is, e))
 
 pub usage : (words : List (List ℕ)) (folder : Option Folder) (f g : ℕ) (old new : Option (List ℕ)) (c d status : ℕ) → IsEnd words folder f g old new c d status → status ≡ 1
     → IsNoCommand words × Grows old new usage_line
@@ -47,11 +62,11 @@ usage words folder f g old new c d status h e =
 
 refused_in : (words : List (List ℕ)) (folder : Option Folder) (f g : ℕ) (old new : Option (List ℕ)) (status : ℕ) (ending : Ending)
     → status ≡ status_of ending → IsEnding words folder f g ending → Grows old new (text_of ending) → status ≡ 2 → IsRefused words folder × Grows old new refused_line
-refused_in words folder f g old new status (Done printed) is ends text e = absurd (omega (is, e))
-refused_in words folder f g old new status Usage is ends text e = absurd (omega (is, e))
+refused_in words folder f g old new status (Done printed) is ends text e = absurd (omega (arith, is, e))
+refused_in words folder f g old new status Usage is ends text e = absurd (omega (arith, is, e))
 refused_in words folder f g old new status Refused is ends text e = (ends, text)
-refused_in words folder f g old new status (WrongLine line) is ends text e = absurd (omega (is, e))
-refused_in words folder f g old new status (Unread name) is ends text e = absurd (omega (is, e))
+refused_in words folder f g old new status (WrongLine line) is ends text e = absurd (omega (arith, is, e))
+refused_in words folder f g old new status (Unread name) is ends text e = absurd (omega (arith, is, e))
 
 pub refused : (words : List (List ℕ)) (folder : Option Folder) (f g : ℕ) (old new : Option (List ℕ)) (c d status : ℕ) → IsEnd words folder f g old new c d status → status ≡ 2
     → IsRefused words folder × Grows old new refused_line
@@ -60,23 +75,23 @@ refused words folder f g old new c d status h e =
 
 wrong_line_in : (words : List (List ℕ)) (folder : Option Folder) (f g : ℕ) (old new : Option (List ℕ)) (status : ℕ) (ending : Ending)
     → status ≡ status_of ending → IsEnding words folder f g ending → Grows old new (text_of ending) → status ≡ 3 → (line : ℕ) × IsWrongLine words folder line × Grows old new (wrong_line line)
-wrong_line_in words folder f g old new status (Done printed) is ends text e = absurd (omega (is, e))
-wrong_line_in words folder f g old new status Usage is ends text e = absurd (omega (is, e))
-wrong_line_in words folder f g old new status Refused is ends text e = absurd (omega (is, e))
+wrong_line_in words folder f g old new status (Done printed) is ends text e = absurd (omega (arith, is, e))
+wrong_line_in words folder f g old new status Usage is ends text e = absurd (omega (arith, is, e))
+wrong_line_in words folder f g old new status Refused is ends text e = absurd (omega (arith, is, e))
 wrong_line_in words folder f g old new status (WrongLine line) is ends text e = (line, ends, text)
-wrong_line_in words folder f g old new status (Unread name) is ends text e = absurd (omega (is, e))
+wrong_line_in words folder f g old new status (Unread name) is ends text e = absurd (omega (arith, is, e))
 
-pub wrong_line : (words : List (List ℕ)) (folder : Option Folder) (f g : ℕ) (old new : Option (List ℕ)) (c d status : ℕ) → IsEnd words folder f g old new c d status → status ≡ 3
+pub in_wrong_line : (words : List (List ℕ)) (folder : Option Folder) (f g : ℕ) (old new : Option (List ℕ)) (c d status : ℕ) → IsEnd words folder f g old new c d status → status ≡ 3
     → (line : ℕ) × IsWrongLine words folder line × Grows old new (wrong_line line)
-wrong_line words folder f g old new c d status h e =
+in_wrong_line words folder f g old new c d status h e =
     let r = reported words folder f g old new c d status h (omega (arith, e)) in wrong_line_in words folder f g old new status r.ending r.status_is r.ends r.text e
 
 unread_in : (words : List (List ℕ)) (folder : Option Folder) (f g : ℕ) (old new : Option (List ℕ)) (status : ℕ) (ending : Ending)
     → status ≡ status_of ending → IsEnding words folder f g ending → Grows old new (text_of ending) → status ≡ 4 → (name : List ℕ) × IsUnread words f g name × Grows old new (unread_line name)
-unread_in words folder f g old new status (Done printed) is ends text e = absurd (omega (is, e))
-unread_in words folder f g old new status Usage is ends text e = absurd (omega (is, e))
-unread_in words folder f g old new status Refused is ends text e = absurd (omega (is, e))
-unread_in words folder f g old new status (WrongLine line) is ends text e = absurd (omega (is, e))
+unread_in words folder f g old new status (Done printed) is ends text e = absurd (omega (arith, is, e))
+unread_in words folder f g old new status Usage is ends text e = absurd (omega (arith, is, e))
+unread_in words folder f g old new status Refused is ends text e = absurd (omega (arith, is, e))
+unread_in words folder f g old new status (WrongLine line) is ends text e = absurd (omega (arith, is, e))
 unread_in words folder f g old new status (Unread name) is ends text e = (string_bytes name, ends, text)
 
 pub unread : (words : List (List ℕ)) (folder : Option Folder) (f g : ℕ) (old new : Option (List ℕ)) (c d status : ℕ) → IsEnd words folder f g old new c d status → status ≡ 4
@@ -92,13 +107,13 @@ below_five (WrongLine line) = omega arith
 below_five (Unread name) = omega arith
 
 pub failed : (words : List (List ℕ)) (folder : Option Folder) (f g : ℕ) (old new : Option (List ℕ)) (c d status : ℕ) → IsEnd words folder f g old new c d status → status ≡ 5 → Rises c d × Grows old new []
-failed words folder f g old new c d status (inl r) e = absurd (omega (below_five r.ending, r.status_is, e))
+failed words folder f g old new c d status (inl r) e = absurd (omega (arith, below_five r.ending, r.status_is, e))
 failed words folder f g old new c d status (inr (inl h)) e = (h.rose, h.nothing)
-failed words folder f g old new c d status (inr (inr h)) e = absurd (omega (h.is, e))
+failed words folder f g old new c d status (inr (inr h)) e = absurd (omega (arith, h.is, e))
 
 pub memory : (words : List (List ℕ)) (folder : Option Folder) (f g : ℕ) (old new : Option (List ℕ)) (c d status : ℕ) → IsEnd words folder f g old new c d status → status ≡ 8 → Grows old new memory_line ⊎ Grows old new []
-memory words folder f g old new c d status (inl r) e = absurd (omega (below_five r.ending, r.status_is, e))
-memory words folder f g old new c d status (inr (inl h)) e = absurd (omega (h.is, e))
+memory words folder f g old new c d status (inl r) e = absurd (omega (arith, below_five r.ending, r.status_is, e))
+memory words folder f g old new c d status (inr (inl h)) e = absurd (omega (arith, h.is, e))
 memory words folder f g old new c d status (inr (inr h)) e = h.line
 
 known_ending : (ending : Ending) (status : ℕ) → status ≡ status_of ending → IsStatus status

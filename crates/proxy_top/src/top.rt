@@ -5,8 +5,25 @@ ghost use Rattle.outside_ports.specs.Counts.{Rises};
 ghost use Rattle.outside_ports.specs.Told.{Grows};
 ghost use Rattle.proxy_top.specs.Commands.{words_of, sim_words, IsNoCommand};
 ghost use Rattle.proxy_top.specs.Endings.{
-    IsEnding, IsDone, IsRefused, IsWrongLine, IsUnread, IsPrinted, IsEnd, IsStatus, Gives, IsInNoForm, IsInWrongLine, IsReady, status_of, text_of, usage_line,
-    refused_line, wrong_line, unread_line, memory_line,
+  IsEnding,
+  IsDone,
+  IsRefused,
+  IsWrongLine,
+  IsUnread,
+  IsPrinted,
+  IsEnd,
+  IsStatus,
+  Gives,
+  IsInNoForm,
+  IsInWrongLine,
+  IsReady,
+  status_of,
+  text_of,
+  usage_line,
+  refused_line,
+  wrong_line,
+  unread_line,
+  memory_line,
 };
 
 use crate::command::{Command, read_command};
@@ -47,20 +64,7 @@ enum Ending {
 /// | 4 | a file couldn't be read | `cannot read NAME` |
 /// | 5 | the console failed | |
 /// | 8 | no memory was found | `out of memory`, or nothing |
-#[tactic(auto, using(
-    crate::proofs::Statuses::done,
-    crate::proofs::Statuses::usage,
-    crate::proofs::Statuses::refused,
-    crate::proofs::Statuses::wrong_line,
-    crate::proofs::Statuses::unread,
-    crate::proofs::Statuses::failed,
-    crate::proofs::Statuses::memory,
-    crate::proofs::Statuses::known,
-    crate::proofs::Statuses::no_command,
-    crate::proofs::Causes::ready,
-    crate::proofs::Causes::no_form,
-    crate::proofs::Causes::in_wrong_line
-))]
+#[tactic(auto, using(crate::proofs::Statuses::done, crate::proofs::Statuses::usage, crate::proofs::Statuses::refused, crate::proofs::Statuses::in_wrong_line, crate::proofs::Statuses::unread, crate::proofs::Statuses::failed, crate::proofs::Statuses::memory, crate::proofs::Statuses::known, crate::proofs::Statuses::no_command, crate::proofs::Causes::no_form))]
 pub fn simulate<F: Files, C: Console>(
     alloc: Global,
     words: &[String],
