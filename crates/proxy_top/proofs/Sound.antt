@@ -1,5 +1,5 @@
 -- What was read of a scenario is in order, and each of its datagrams is short.
-use Rattle.std.proofs.Common.{◌≡◌, ℕ, ◌+◌, ◌<◌, ◌≤◌, List, [], ◌∷◌, ◌++◌, length, refl, sym, ap, ◌∙◌, subst, arith, length-append, Option, Some, None}
+use Rattle.std.proofs.Common.{◌≡◌, ℕ, ◌+◌, ◌≤◌, List, [], ◌∷◌, ◌++◌, length, refl, sym, ◌∙◌, subst, arith, length-append, Option, None}
 use Rattle.std.specs.Prelude.{All, unwrap_or}
 use Rattle.std.proofs.Math.ListN.{get_or-append}
 use Rattle.std.proofs.lemmas.List.Elements.{All-push}
@@ -52,7 +52,7 @@ replaced before a b end none e short h = record {
       let P : ℕ → Type 0 = λ n. IsInOrder (before ++ b ∷ []) n in
       rw none (subst P same moved);
   short = All-push IsShort before b (all_front before a h.short) short;
-  day = h.day
+  day = h.day;
 }
 
 sound_text : (old : State) (text : List ℕ) (new : State) → IsSound old
@@ -76,7 +76,7 @@ sound_takes old (In at from) new h t =
           rw (t.0, last_moment_push old.arrivals next)
           (in_order_push old.arrivals next (last_moment old.arrivals) at ordered t.1 (omega arith));
       short = All-push IsShort old.arrivals _ h.short (omega arith);
-      day = h.day
+      day = h.day;
     })
 sound_takes old (Text text) new h t = sound_text old text.now new h t.0 t.1 t.2 t.3 t.4 t.5
 sound_takes old (End at) new h t =
@@ -85,5 +85,5 @@ sound_takes old (End at) new h t =
           let ordered : IsInOrder old.arrivals (last_moment old.arrivals) = rw t.0 at h.in_order in
           in_order_le old.arrivals (last_moment old.arrivals) at ordered t.1;
       short = h.short;
-      day = t.2
+      day = t.2;
     })

@@ -17,8 +17,8 @@ loop-line-preserved c =
       sound_takes (shown c.loop-line.draft) c.in-Some-read_line.line (shown c.take.new.self) c.loop-line.invariant.1 c.in-Ok.ensures.taken,
       omega (arith, c.loop-line.invariant.2),
       read_more c.args.text.now c.loop-line.rest.now line more (shown c.loop-line.draft) (shown c.take.new.self) c.loop-line.number
-      c.loop-line.invariant.3 c.in-Some.ensures.found
-      (c.in-Some-read_line.line, c.in-Some-read_line.ensures.found, c.in-Ok.ensures.taken),
+          c.loop-line.invariant.3 c.in-Some.ensures.found
+          (c.in-Some-read_line.line, c.in-Some-read_line.ensures.found, c.in-Ok.ensures.taken),
     )
 
 pub returns-in_default-read_line-clause-wrong : goal.returns-in_default-read_line-clause-wrong
@@ -44,7 +44,7 @@ returns-in_default-end-clause-wrong c = λ number e.
     subst (IsFirstWrong c.args.text.now) same
     (wrong_at_end c.args.text.now c.loop-line.rest.now (shown c.loop-line.draft) c.loop-line.number c.loop-line.invariant.3
     c.in_default.ensures.none (λ empty. elim c.in_default-end.branch [
-      in_default-end-via-in-Some-end+else-is_empty w ↦
+      | in_default-end-via-in-Some-end+else-is_empty w ↦
           let other : false ≡ true = sym w.if-is_empty.false ∙ w.is_empty.ensures ∙ ap (λ (xs : List ℕ). length xs == 0) empty in absurd (cc)
-    | in_default-end-via-in_default-end w ↦ w.in_default-end.is
+      | in_default-end-via-in_default-end w ↦ w.in_default-end.is
     ]))
