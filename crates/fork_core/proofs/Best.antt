@@ -1,9 +1,9 @@
 -- The best of the kept answers so far.
-use Rattle.std.proofs.Common.{◌≡◌, ◌≢◌, ℕ, ◌+◌, ◌<◌, ◌≤◌, ◌⊎◌, inl, inr, Option, Some, None, List, [], ◌∷◌, length, slice_index, slice_index_or, refl, sym, ◌∙◌, ap, subst, arith}
+use Rattle.std.proofs.Common.{◌≡◌, ℕ, ◌+◌, ◌<◌, ◌≤◌, ◌⊎◌, inl, inr, Option, Some, None, length, sym, ◌∙◌, ap, subst, arith}
 use Rattle.std.proofs.lemmas.List.{get_or_past}
 use Rattle.std.specs.Option.{MatchOption}
 use Rattle.fork_core.specs.declared.context.Context.{Context}
-use Rattle.fork_core.specs.declared.context.Mark.TheVariants.{Open, Succeeded, Kept}
+use Rattle.fork_core.specs.declared.context.Mark.TheVariants.{Open, Kept}
 use Rattle.fork_core.specs.Answers.{Answer, History, FirstFinal, IsKeptNow}
 use Rattle.fork_core.specs.Preference.{Preferred, GoesBefore, group_of, place_of}
 use Rattle.fork_core.specs.Preference.Preferred.{by_class, by_place, by_code, by_branch}

@@ -1,5 +1,5 @@
 -- First final answers, and lists of answers that grow at the end.
-use Rattle.std.proofs.Common.{◌≡◌, ◌≢◌, ℕ, ◌<◌, ◌≤◌, ◌⊎◌, inl, inr, Bool, List, [], ◌∷◌, ◌++◌, refl, sym, ◌∙◌, ap, subst, arith}
+use Rattle.std.proofs.Common.{◌≡◌, ℕ, List, [], ◌∷◌, ◌++◌, refl, arith}
 use Rattle.std.specs.List.{AllByRecursion}
 use Rattle.fork_core.specs.Answers.{Answer, IsSuccess, IsFailure, IsFinal, HasNoFinal, FirstFinal}
 use Rattle.fork_core.specs.Answers.FirstFinal.{here, after}

@@ -1,15 +1,14 @@
 -- Marks and the history that they stand for.
-use Rattle.std.proofs.Common.{◌≡◌, ◌≢◌, ℕ, ◌+◌, ◌<◌, ◌≤◌, ◌⊎◌, inl, inr, Bool, true, false, List, [], ◌∷◌, ◌++◌, length, take, drop, slice_index, slice_index_or, slice_set, get_or-set_same, get_or-set_other, length-set, refl, sym, ◌∙◌, ap, subst, arith}
+use Rattle.std.proofs.Common.{◌≡◌, ◌≢◌, ℕ, ◌<◌, ◌≤◌, ◌⊎◌, inl, inr, Bool, true, List, [], ◌∷◌, ◌++◌, length, take, drop, slice_index, slice_index_or, slice_set, get_or-set_same, get_or-set_other, length-set, refl, sym, ◌∙◌, ap, subst, arith}
 use Rattle.std.proofs.lemmas.Bool.Decides.{nat_tests}
 use Rattle.std.proofs.Math.Seq.{take-append_seam}
-use Rattle.std.specs.List.{AllByRecursion}
 use Rattle.fork_core.specs.declared.context.Context.{Context}
 use Rattle.fork_core.specs.declared.context.Mark.{Mark}
 use Rattle.fork_core.specs.declared.context.Mark.TheVariants.{Open, Succeeded, Kept}
-use Rattle.fork_core.specs.Answers.{Answer, History, IsSuccess, IsFailure, IsFinal, HasNoFinal, FirstFinal, IsKept, IsKeptNow, with_answer}
+use Rattle.fork_core.specs.Answers.{Answer, History, IsSuccess, IsFailure, IsFinal, HasNoFinal, FirstFinal, IsKept, with_answer}
 use Rattle.fork_core.specs.Choices.{IsToCancel, IsChallenged, IsChallenge, Joins}
 use Rattle.fork_core.specs.Stands.{StandsFor, Says, branch_count, mark_of, mark_after, IsChallengeMark}
-use Rattle.fork_core.proofs.Finals.{all_append, all_map, first_branch, first_final, first_has, first_append, first_new, first_not_none, first_unique, success_final, failure_final, not_both}
+use Rattle.fork_core.proofs.Finals.{all_append, first_branch, first_has, first_append, first_new, first_not_none, first_unique, success_final, failure_final, not_both}
 
 -- the classes of a code
 data Class (code : ℕ) : Type 0 where

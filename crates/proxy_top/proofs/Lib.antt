@@ -7,3 +7,7 @@ mod Drafts
 mod Sound
 mod Pieces
 mod Run
+mod Scripts
+mod Three
+mod Statuses
+mod Causes

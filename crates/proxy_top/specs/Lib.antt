@@ -7,3 +7,6 @@ pub mod Trace
 pub mod Pieces
 pub mod Solo
 pub mod Handled
+pub mod Script
+pub mod Commands
+pub mod Endings

@@ -1,5 +1,8 @@
 //! The words of a command.
 
+ghost use Rattle.std.specs.Prelude.{IfSome, IfNone};
+ghost use Rattle.proxy_top.specs.Commands.{words_of, IsNoCommand, IsCommand};
+
 /// What the words ask for.
 #[derive(Clone, Copy)]
 pub enum Command<'a> {
@@ -8,7 +11,10 @@ pub enum Command<'a> {
 }
 
 /// The command that these words are, without the program's name.
-pub fn read_command(words: &[String]) -> Option<Command<'_>> {
+pub fn read_command(words: &[String]) -> Option<Command<'_>>
+    ensures found { IfSome result (IsCommand (words_of words.entry.now)) }
+    ensures none { IfNone result (IsNoCommand (words_of words.entry.now)) }
+{
     match words {
         [command, script, scenario] if command.as_str() == "sim" => {
             Some(Command::Sim {

@@ -1,5 +1,4 @@
-use Rattle.std.proofs.Common.{◌≡◌, ◌+◌, sym, subst, arith, Some, None}
-use Rattle.fork_core.specs.Stands.{mark_of, branch_count}
+use Rattle.std.proofs.Common.{◌+◌, sym, subst, arith}
 use Rattle.fork_core.proofs.Best.{BestBelow, best_more, best_skip, best_found, best_missing}
 use Rattle.fork_core.proofs.context.Context.best.Goals as goal
 use Rattle.fork_core.proofs.context.Context.best.Goals.{in-Kept, in_default}

@@ -1,5 +1,4 @@
-use Rattle.std.proofs.Common.{◌∙◌, refl, ap}
-use Rattle.fork_core.specs.Stands.{mark_of, mark_after}
+use Rattle.std.proofs.Common.{◌∙◌, refl}
 use Rattle.fork_core.proofs.Standing.{counts, refilled_set}
 use Rattle.fork_core.proofs.context.Context.count.Goals as goal
 

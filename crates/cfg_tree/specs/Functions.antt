@@ -1,0 +1,230 @@
+-- The functions of a script: their blocks, and the arguments that each of them takes.
+use Rattle.std.specs.Prelude.{ℕ, ℤ, pos, negsuc, ◌==◌, Bool, true, false, not, ◌&&◌, ◌||◌, nat_le, List, [], ◌∷◌, ◌++◌, length, position, Option, Some, None, if◌then◌else◌, codes}
+use Rattle.std.specs.List.{list_any}
+use Rattle.std.specs.Fmt.{signed_decimal}
+use Rattle.std.specs.Str.{bytes_eq, str_eq_ignore_ascii_case}
+use Rattle.std.specs.Str.Parse.{digits_value}
+use Rattle.pv_values.specs.Kinds.{stands_in}
+use Rattle.pv_values.specs.Matching.{is_pattern}
+use Rattle.pv_values.specs.Numbers.{is_numeral}
+use Rattle.pv_values.specs.declared.block.BlockKind.TheVariants.{Request, Branch, Failure, Reply, Event}
+use Rattle.pv_values.specs.declared.refusal.Place.{Place}
+use Rattle.pv_values.specs.declared.function.Func.{Func}
+use Rattle.pv_values.specs.declared.function.Func.TheVariants as func
+use Rattle.cfg_tree.specs.declared.raw.Word.{Word}
+use Rattle.cfg_tree.specs.declared.raw.RawArg.{RawArg}
+use Rattle.cfg_tree.specs.declared.raw.RawArg.TheVariants as arg
+use Rattle.cfg_tree.specs.declared.raw.RouteKind.{RouteKind}
+use Rattle.cfg_tree.specs.declared.raw.RouteKind.TheVariants.{Route, Begins}
+use Rattle.cfg_tree.specs.declared.script.Part.{Part}
+use Rattle.cfg_tree.specs.declared.script.Part.TheOpen.{Part-F}
+use Rattle.cfg_tree.specs.declared.script.Part.TheViews.{roll-Part}
+use Rattle.cfg_tree.specs.Names.{Known, named, expansion, part_of, table_and_key}
+use Rattle.cfg_tree.specs.Variables.{begins_with}
+use Rattle.cfg_tree.specs.Refusals.{Checked, accepted, refused, one, both, from_some, unless}
+
+-- a function with its literal arguments, and the parts of its expanded ones
+abbrev pub FuncWith : Type 0
+FuncWith = Func × List (List Part)
+
+-- ---- arguments
+
+-- an argument that is expanded: a string, a variable, or a number, which is its decimal text
+abbrev pub expanded_arg : Known → RawArg → Checked (List Part)
+expanded_arg known (arg.String w) = expansion known w.at w.text
+expanded_arg known (arg.Number n) = accepted (roll-Part (Part-F.Text (signed_decimal n)) ∷ [])
+expanded_arg known (arg.Variable v) = one (λ p. p ∷ []) (part_of known v.at v.variable)
+
+-- a literal argument, which is a string
+abbrev pub literal : RawArg → Option Word
+literal (arg.String w) = Some w
+literal (arg.Number n) = None
+literal (arg.Variable v) = None
+
+-- plain decimal: digits without a leading zero
+abbrev pub plain_decimal : List ℕ → Option ℕ
+plain_decimal text =
+    if is_numeral text && (not (begins_with 48 text) || (length text == 1)) then Some (digits_value 10 text) else None
+
+abbrev pub not_below_0 : ℤ → Option ℕ
+not_below_0 (pos n) = Some n
+not_below_0 (negsuc n) = None
+
+abbrev pub between : ℕ → ℕ → Option ℕ → Option ℕ
+between low high None = None
+between low high (Some n) = if nat_le low n && nat_le n high then Some n else None
+
+-- a number within these bounds, or a literal string of it
+abbrev pub number_arg : RawArg → Option ℕ
+number_arg (arg.Number n) = not_below_0 n
+number_arg (arg.String w) = plain_decimal w.text
+number_arg (arg.Variable v) = None
+
+-- the number of the block of this kind and name
+abbrev pub kind_number : RouteKind → ℕ
+kind_number Route = 0
+kind_number (Begins Request) = 1
+kind_number (Begins Branch) = 2
+kind_number (Begins Failure) = 3
+kind_number (Begins Reply) = 4
+kind_number (Begins Event) = 5
+
+abbrev pub is_same_name : Option (List ℕ) → Option (List ℕ) → Bool
+is_same_name None None = true
+is_same_name None (Some b) = false
+is_same_name (Some a) None = false
+is_same_name (Some a) (Some b) = bytes_eq a b
+
+abbrev pub is_same_block : RouteKind × Option (List ℕ) → RouteKind × Option (List ℕ) → Bool
+is_same_block a b = (kind_number a.0 == kind_number b.0) && is_same_name a.1 b.1
+
+abbrev pub block_number : Known → RouteKind → Word → Checked ℕ
+block_number known kind w = from_some (position (is_same_block (kind, Some w.text)) known.blocks) 4 w.at accepted
+
+-- the number of a table
+abbrev pub table_number : Known → Place → List ℕ → Checked ℕ
+table_number known at name = from_some (position (bytes_eq name) known.tables) 9 at accepted
+
+-- the number of a pattern: patterns are numbered as they are met, and there are 64 at most
+abbrev pub pattern_number : Place → List ℕ → Checked ℕ
+pattern_number at source seen =
+    if not (is_pattern source) then refused 12 at seen
+    else if nat_le 64 (length seen.patterns) then refused 13 at seen
+    else accepted (length seen.patterns) (record seen { patterns = seen.patterns ++ source ∷ [] })
+
+-- ---- forms of arguments; what has another form is refused at the function's name
+
+abbrev pub no_arg : List RawArg → Option ℕ
+no_arg [] = Some 0
+no_arg (a ∷ more) = None
+
+abbrev pub one_arg : List RawArg → Option RawArg
+one_arg [] = None
+one_arg (a ∷ []) = Some a
+one_arg (a ∷ b ∷ more) = None
+
+abbrev pub two_args : List RawArg → Option (RawArg × RawArg)
+two_args [] = None
+two_args (a ∷ []) = None
+two_args (a ∷ b ∷ []) = Some (a, b)
+two_args (a ∷ b ∷ c ∷ more) = None
+
+abbrev pub three_args : List RawArg → Option (RawArg × RawArg × RawArg)
+three_args [] = None
+three_args (a ∷ []) = None
+three_args (a ∷ b ∷ []) = None
+three_args (a ∷ b ∷ c ∷ []) = Some (a, b, c)
+three_args (a ∷ b ∷ c ∷ d ∷ more) = None
+
+abbrev pub Form : Type 0
+Form = Known → Place → List RawArg → Checked FuncWith
+
+-- (): no argument
+abbrev pub plain : Func → Form
+plain f known at args = from_some (no_arg args) 8 at (λ _. accepted (f, []))
+
+-- (x): one that is expanded
+abbrev pub expanding : Func → Form
+expanding f known at args = from_some (one_arg args) 8 at (λ x. one (λ p. (f, p ∷ [])) (expanded_arg known x))
+
+-- (x, x)
+abbrev pub expanding_two : Func → Form
+expanding_two f known at args = from_some (two_args args) 8 at (λ (x, y).
+    both (λ p q. (f, p ∷ q ∷ [])) (expanded_arg known x) (expanded_arg known y))
+
+-- ([x])
+abbrev pub expanding_maybe : Func → Form
+expanding_maybe f known at [] = accepted (f, [])
+expanding_maybe f known at (a ∷ more) = expanding f known at (a ∷ more)
+
+-- (code, x reason): 100 to 699
+abbrev pub replying : (ℕ → Func) → Form
+replying make known at args = from_some (two_args args) 8 at (λ (c, x). from_some (between 100 699 (number_arg c)) 8 at (λ code.
+    one (λ p. (make code, p ∷ [])) (expanded_arg known x)))
+
+-- (n): a number from 1 to 255
+abbrev pub counting : (ℕ → Func) → Form
+counting make known at args = from_some (one_arg args) 8 at (λ n. from_some (between 1 255 (number_arg n)) 8 at (λ n. accepted (make n, [])))
+
+-- ("literal")
+abbrev pub with_literal : (Known → Place → Word → Checked Func) → Form
+with_literal read known at args = from_some (one_arg args) 8 at (λ a. from_some (literal a) 8 at (λ w.
+    one (λ f. (f, [])) (read known at w)))
+
+abbrev pub taking_text : (List ℕ → Func) → Form
+taking_text make = with_literal (λ known at w. accepted (make w.text))
+
+abbrev pub taking_block : RouteKind → (ℕ → Func) → Form
+taking_block kind make = with_literal (λ known at w. one make (block_number known kind w))
+
+abbrev pub taking_pattern : (ℕ → Func) → Form
+taking_pattern make = with_literal (λ known at w. one make (pattern_number w.at w.text))
+
+abbrev pub taking_table : (ℕ → Func) → Form
+taking_table make = with_literal (λ known at w. one make (table_number known w.at w.text))
+
+-- "table=>re"
+abbrev pub taking_table_pattern : (ℕ → ℕ → Func) → Form
+taking_table_pattern make = with_literal (λ known at w. from_some (table_and_key w.text) 8 at (λ split.
+    both make (table_number known w.at split.0) (pattern_number w.at split.1)))
+
+-- a name of a field that may be removed: not one of those that a message needs
+abbrev pub needed_fields : List (List ℕ)
+needed_fields =
+    codes "via" ∷ codes "v" ∷ codes "from" ∷ codes "f" ∷ codes "to" ∷ codes "t" ∷ codes "call-id" ∷ codes "i" ∷ codes "cseq"
+    ∷ codes "max-forwards" ∷ codes "content-length" ∷ codes "l" ∷ codes "route" ∷ codes "record-route" ∷ []
+
+abbrev pub taking_removable : (List ℕ → Func) → Form
+taking_removable make = with_literal (λ known at w.
+    if list_any (str_eq_ignore_ascii_case w.text) needed_fields then refused 8 at else accepted (make w.text))
+
+-- (x index, x label, route)
+abbrev pub continuing : (ℕ → Func) → Form
+continuing make known at args = from_some (three_args args) 8 at (λ (i, l, r). from_some (literal r) 8 at (λ w.
+    both (λ ps b. (make b, ps)) (both (λ p q. p ∷ q ∷ []) (expanded_arg known i) (expanded_arg known l)) (block_number known Route w)))
+
+-- ([level,] x text): the level is a string, which isn't looked at
+abbrev pub logging : Func → Form
+logging f known at [] = refused 8 at
+logging f known at (x ∷ []) = expanding f known at (x ∷ [])
+logging f known at (level ∷ x ∷ more) = from_some (literal level) 8 at (λ w. expanding f known at (x ∷ more))
+
+-- ---- the functions: each with one like it, which tells its blocks, and its form
+
+abbrev pub functions : List (List ℕ × (Func × Form))
+functions =
+    (codes "sl_send_reply", (func.SlSendReply 100, replying func.SlSendReply))
+    ∷ (codes "t_newtran", (func.TNewtran, plain func.TNewtran))
+    ∷ (codes "t_reply", (func.TReply 100, replying func.TReply))
+    ∷ (codes "t_relay", (func.TRelay, plain func.TRelay))
+    ∷ (codes "append_branch", (func.AppendBranch, expanding_maybe func.AppendBranch))
+    ∷ (codes "t_on_branch", (func.TOnBranch 0, taking_block (Begins Branch) func.TOnBranch))
+    ∷ (codes "t_on_failure", (func.TOnFailure 0, taking_block (Begins Failure) func.TOnFailure))
+    ∷ (codes "t_on_reply", (func.TOnReply 0, taking_block (Begins Reply) func.TOnReply))
+    ∷ (codes "t_set_fr", (func.TSetFr, expanding_two func.TSetFr))
+    ∷ (codes "t_check_trans", (func.TCheckTrans, plain func.TCheckTrans))
+    ∷ (codes "t_is_canceled", (func.TIsCanceled, plain func.TIsCanceled))
+    ∷ (codes "t_check_status", (func.TCheckStatus 0, taking_pattern func.TCheckStatus))
+    ∷ (codes "t_suspend", (func.TSuspend, plain func.TSuspend))
+    ∷ (codes "t_continue", (func.TContinue 0, continuing func.TContinue))
+    ∷ (codes "is_method", (func.IsMethod [], taking_text func.IsMethod))
+    ∷ (codes "has_totag", (func.HasTotag, plain func.HasTotag))
+    ∷ (codes "is_present_hf", (func.IsPresentHf [], taking_text func.IsPresentHf))
+    ∷ (codes "remove_hf", (func.RemoveHf [], taking_removable func.RemoveHf))
+    ∷ (codes "append_hf", (func.AppendHf, expanding func.AppendHf))
+    ∷ (codes "mf_process_maxfwd_header", (func.MfProcessMaxfwdHeader 1, counting func.MfProcessMaxfwdHeader))
+    ∷ (codes "record_route", (func.RecordRoute, plain func.RecordRoute))
+    ∷ (codes "loose_route", (func.LooseRoute, plain func.LooseRoute))
+    ∷ (codes "xlog", (func.Xlog, logging func.Xlog))
+    ∷ (codes "sht_rm_name_re", (func.ShtRmNameRe 0 0, taking_table_pattern func.ShtRmNameRe))
+    ∷ (codes "sht_reset", (func.ShtReset 0, taking_table func.ShtReset)) ∷ []
+
+-- a function stands where it works: in `route[NAME]`, or directly in a block of a kind that lists it
+abbrev pub may_stand : Func → RouteKind → Bool
+may_stand f Route = true
+may_stand f (Begins kind) = stands_in f kind
+
+-- a call of the function of this name, in a block of this kind
+abbrev pub function_call : Known → RouteKind → Word → List RawArg → Checked FuncWith
+function_call known kind w args = from_some (named w.text functions) 6 w.at (λ (like, form).
+    unless (if may_stand like kind then None else Some (record { kind = 7; at = w.at })) (form known w.at args))

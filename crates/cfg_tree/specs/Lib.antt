@@ -1,0 +1,12 @@
+pub mod Transformations
+pub mod Meaning
+pub mod Small
+pub mod Tokens
+pub mod Grammar
+pub mod Variables
+pub mod Refusals
+pub mod Names
+pub mod Functions
+pub mod Settings
+pub mod Checks
+pub mod SmallTrees

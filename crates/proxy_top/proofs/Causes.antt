@@ -1,0 +1,134 @@
+-- Where the folder is told, the words and the files leave one ending, besides that of a fault.
+use Rattle.std.proofs.Common.{◌≡◌, ℕ, ◌<◌, ◌≤◌, ◌⊎◌, inl, inr, List, [], ◌∷◌, Option, Some, length, refl, sym, ap, ◌∙◌, subst, arith}
+use Rattle.std.specs.Prelude.{IfSome, IsSomeAnd}
+use Rattle.std.specs.String.{string_bytes}
+use Rattle.outside_ports.specs.Counts.{Rises}
+use Rattle.outside_ports.specs.Files.{Folder, Holds, IsLonger}
+use Rattle.proxy_top.specs.declared.script.AnswerAll.{AnswerAll}
+use Rattle.proxy_top.specs.declared.top.Ending.{Ending}
+use Rattle.proxy_top.specs.declared.top.Ending.TheVariants.{Done, Usage, Refused, WrongLine, Unread}
+use Rattle.proxy_top.specs.Commands.{sim_words, IsNoCommand}
+use Rattle.proxy_top.specs.Script.{IsScript}
+use Rattle.proxy_top.specs.Scenario.{IsScenario, IsFirstWrong}
+use Rattle.proxy_top.specs.Endings.{
+  ReadsScript,
+  IsEnding,
+  IsDone,
+  IsRefused,
+  IsWrongLine,
+  IsUnread,
+  Fails,
+  RunsOut,
+  IsReported,
+  IsEnd,
+  Gives,
+  status_of,
+  Tells,
+  IsReady,
+  IsInNoForm,
+  IsInWrongLine,
+}
+use Rattle.proxy_top.proofs.Once.{scenario_not_wrong}
+
+same_words : (script scenario script' scenario' : List ℕ) → sim_words script scenario ≡ sim_words script' scenario'
+    → (script' ≡ script) × (scenario' ≡ scenario)
+same_words script scenario script' scenario' e = (cc, cc)
+
+-- a name that is told holds one text
+held_once : (folder : Option Folder) (name name' : List ℕ) (limit : ℕ) (text text' : List ℕ) → Tells folder name limit text → name' ≡ name
+    → Holds folder name' text' → text' ≡ text
+held_once folder name name' limit text text' t same h =
+    let there : t.files name' ≡ Some text' = subst (λ f. IfSome f (λ files. files name' ≡ Some text')) t.told h in
+    let both : Some text' ≡ Some text = sym there ∙ ap t.files same ∙ t.held in cc
+
+-- a text that is told is no longer than its limit
+not_longer : (folder : Option Folder) (name name' : List ℕ) (limit : ℕ) (text : List ℕ) → Tells folder name limit text → name' ≡ name
+    → IsLonger folder name' limit → ⊥
+not_longer folder name name' limit text t same h =
+    let there : IsSomeAnd (t.files name') (λ bytes. limit < length bytes) =
+    subst (λ f. IfSome f (λ files. IsSomeAnd (files name') (λ bytes. limit < length bytes))) t.told h in
+    let long : limit < length text = subst (λ o. IsSomeAnd o (λ bytes. limit < length bytes)) (ap t.files same ∙ t.held) there in
+    absurd (omega (arith, long, t.short))
+
+-- a script that reads isn't refused
+not_refused : (words : List (List ℕ)) (folder : Option Folder) (script scenario text : List ℕ) (answer : AnswerAll)
+    → words ≡ sim_words script scenario → Tells folder script 1048576 text → IsScript text answer → IsRefused words folder → ⊥
+not_refused words folder script scenario text answer w t accepted r =
+    let same = same_words script scenario r.script r.scenario (sym w ∙ r.words_are) in
+    elim r.refused [
+      | inl h ↦ h.2 answer (subst (λ x. IsScript x answer) (sym (held_once folder script r.script 1048576 text h.0 t same.0 h.1)) accepted)
+      | inr h ↦ not_longer folder script r.script 1048576 text t same.0 h
+    ]
+
+-- a script in no form isn't read
+not_read : (folder : Option Folder) (script script' text : List ℕ) (answer : AnswerAll) → Tells folder script 1048576 text → script' ≡ script
+    → ((answer : AnswerAll) → IsScript text answer → ⊥) → ReadsScript folder script' answer → ⊥
+not_read folder script script' text answer t same none r =
+    none answer (subst (λ x. IsScript x answer) (held_once folder script script' 1048576 text r.text t same r.held) r.script)
+
+-- a scenario that reads has no wrong line
+not_wrong : (words : List (List ℕ)) (folder : Option Folder) (r : IsReady words folder) (line : ℕ) → IsWrongLine words folder line → ⊥
+not_wrong words folder r line w =
+    let same = same_words r.script r.scenario w.script w.scenario (sym r.words_are ∙ w.words_are) in
+    elim w.wrong [
+      | inl h ↦ scenario_not_wrong r.lines r.arrivals r.end line r.reads
+          (subst (λ x. IsFirstWrong x line) (held_once folder r.scenario w.scenario 4194304 r.lines h.0 r.told same.1 h.1) h.2)
+      | inr h ↦ not_longer folder r.scenario w.scenario 4194304 r.lines r.told same.1 h.1
+    ]
+
+-- a scenario with a wrong line isn't read
+not_done : (words : List (List ℕ)) (folder : Option Folder) (line : ℕ) (r : IsInWrongLine words folder line) (printed : List ℕ)
+    → IsDone words folder printed → ⊥
+not_done words folder line r printed d =
+    let same = same_words r.script r.scenario d.script d.scenario (sym r.words_are ∙ d.words_are) in
+    scenario_not_wrong r.lines d.arrivals d.end line
+    (subst (λ x. IsScenario x d.arrivals d.end) (held_once folder r.scenario d.scenario 4194304 r.lines d.text r.told same.1 d.held) d.reads) r.wrong
+
+ready_in : (words : List (List ℕ)) (folder : Option Folder) (f g status : ℕ) (ending : Ending) → IsReady words folder → (Rises f g → ⊥)
+    → status ≡ status_of ending → IsEnding words folder f g ending → status ≡ 0
+ready_in words folder f g status (Done printed) r still is ends = is
+ready_in words folder f g status Usage r still is ends = absurd (ends r.script r.scenario r.words_are)
+ready_in words folder f g status Refused r still is ends =
+    absurd (not_refused words folder r.script r.scenario r.text r.answer r.words_are r.held r.accepted ends)
+ready_in words folder f g status (WrongLine line) r still is ends = absurd (not_wrong words folder r line ends)
+ready_in words folder f g status (Unread name) r still is ends = absurd (still ends.rose)
+
+no_form_in : (words : List (List ℕ)) (folder : Option Folder) (f g status : ℕ) (ending : Ending) → IsInNoForm words folder → (Rises f g → ⊥)
+    → status ≡ status_of ending → IsEnding words folder f g ending → status ≡ 2
+no_form_in words folder f g status (Done printed) r still is ends =
+    let same = same_words r.script r.scenario ends.script ends.scenario (sym r.words_are ∙ ends.words_are) in
+    absurd (not_read folder r.script ends.script r.text ends.answer r.held same.0 r.refused ends.accepted)
+no_form_in words folder f g status Usage r still is ends = absurd (ends r.script r.scenario r.words_are)
+no_form_in words folder f g status Refused r still is ends = is
+no_form_in words folder f g status (WrongLine line) r still is ends =
+    let same = same_words r.script r.scenario ends.script ends.scenario (sym r.words_are ∙ ends.words_are) in
+    absurd (not_read folder r.script ends.script r.text ends.answer r.held same.0 r.refused ends.accepted)
+no_form_in words folder f g status (Unread name) r still is ends = absurd (still ends.rose)
+
+wrong_in : (words : List (List ℕ)) (folder : Option Folder) (f g status line : ℕ) (ending : Ending) → IsInWrongLine words folder line → (Rises f g → ⊥)
+    → status ≡ status_of ending → IsEnding words folder f g ending → status ≡ 3
+wrong_in words folder f g status line (Done printed) r still is ends = absurd (not_done words folder line r printed.items ends)
+wrong_in words folder f g status line Usage r still is ends = absurd (ends r.script r.scenario r.words_are)
+wrong_in words folder f g status line Refused r still is ends =
+    absurd (not_refused words folder r.script r.scenario r.text r.answer r.words_are r.held r.accepted ends)
+wrong_in words folder f g status line (WrongLine other) r still is ends = is
+wrong_in words folder f g status line (Unread name) r still is ends = absurd (still ends.rose)
+
+pub ready : (words : List (List ℕ)) (folder : Option Folder) (f g : ℕ) (old new : Option (List ℕ)) (c d status : ℕ)
+    → IsEnd words folder f g old new c d status → IsReady words folder → Gives 0 f g c d status
+ready words folder f g old new c d status (inl h) r still calm = inl (ready_in words folder f g status h.ending r still h.status_is h.ends)
+ready words folder f g old new c d status (inr (inl h)) r still calm = absurd (calm h.rose)
+ready words folder f g old new c d status (inr (inr h)) r still calm = inr h.is
+
+pub no_form : (words : List (List ℕ)) (folder : Option Folder) (f g : ℕ) (old new : Option (List ℕ)) (c d status : ℕ)
+    → IsEnd words folder f g old new c d status → IsInNoForm words folder → Gives 2 f g c d status
+no_form words folder f g old new c d status (inl h) r still calm = inl (no_form_in words folder f g status h.ending r still h.status_is h.ends)
+no_form words folder f g old new c d status (inr (inl h)) r still calm = absurd (calm h.rose)
+no_form words folder f g old new c d status (inr (inr h)) r still calm = inr h.is
+
+pub wrong_line_only : (words : List (List ℕ)) (folder : Option Folder) (f g : ℕ) (old new : Option (List ℕ)) (c d status : ℕ)
+    → IsEnd words folder f g old new c d status → (line : ℕ) → IsInWrongLine words folder line → Gives 3 f g c d status
+wrong_line_only words folder f g old new c d status (inl h) line r still calm =
+    inl (wrong_in words folder f g status line h.ending r still h.status_is h.ends)
+wrong_line_only words folder f g old new c d status (inr (inl h)) line r still calm = absurd (calm h.rose)
+wrong_line_only words folder f g old new c d status (inr (inr h)) line r still calm = inr h.is

@@ -1,0 +1,142 @@
+-- What each status of a command says, from how the command ended.
+use Rattle.std.proofs.Common.{◌≡◌, ℕ, ◌<◌, ◌⊎◌, inl, inr, [], List, Option, arith}
+use Rattle.std.specs.String.{string_bytes}
+use Rattle.outside_ports.specs.Counts.{Rises}
+use Rattle.outside_ports.specs.Told.{Grows}
+use Rattle.outside_ports.specs.Files.{Folder}
+use Rattle.proxy_top.specs.declared.top.Ending.{Ending}
+use Rattle.proxy_top.specs.declared.top.Ending.TheVariants.{Done, Usage, Refused, WrongLine, Unread}
+use Rattle.proxy_top.specs.Commands.{IsNoCommand}
+use Rattle.proxy_top.specs.Endings.{
+  IsEnding,
+  IsDone,
+  IsRefused,
+  IsWrongLine,
+  IsUnread,
+  Fails,
+  RunsOut,
+  IsReported,
+  IsEnd,
+  IsStatus,
+  Gives,
+  status_of,
+  text_of,
+  usage_line,
+  refused_line,
+  wrong_line,
+  unread_line,
+  memory_line,
+}
+
+-- below 5 the status is that of an ending
+reported : (words : List (List ℕ)) (folder : Option Folder) (f g : ℕ) (old new : Option (List ℕ)) (c d status : ℕ) → IsEnd words folder f g old new c d status → status < 5 → IsReported words folder f g old new status
+reported words folder f g old new c d status (inl r) low = r
+reported words folder f g old new c d status (inr (inl h)) low = absurd (omega (arith, h.is, low))
+reported words folder f g old new c d status (inr (inr h)) low = absurd (omega (arith, h.is, low))
+
+done_in : (words : List (List ℕ)) (folder : Option Folder) (f g : ℕ) (old new : Option (List ℕ)) (status : ℕ) (ending : Ending)
+    → status ≡ status_of ending → IsEnding words folder f g ending → Grows old new (text_of ending) → status ≡ 0 → (text : List ℕ) × IsDone words folder text × Grows old new text
+done_in words folder f g old new status (Done printed) is ends text e = (printed.items, ends, text)
+done_in words folder f g old new status Usage is ends text e = absurd (omega (arith, is, e))
+done_in words folder f g old new status Refused is ends text e = absurd (omega (arith, is, e))
+done_in words folder f g old new status (WrongLine line) is ends text e = absurd (omega (arith, is, e))
+done_in words folder f g old new status (Unread name) is ends text e = absurd (omega (arith, is, e))
+
+pub done : (words : List (List ℕ)) (folder : Option Folder) (f g : ℕ) (old new : Option (List ℕ)) (c d status : ℕ) → IsEnd words folder f g old new c d status → status ≡ 0
+    → (text : List ℕ) × IsDone words folder text × Grows old new text
+done words folder f g old new c d status h e =
+    let r = reported words folder f g old new c d status h (omega (arith, e)) in done_in words folder f g old new status r.ending r.status_is r.ends r.text e
+
+usage_in : (words : List (List ℕ)) (folder : Option Folder) (f g : ℕ) (old new : Option (List ℕ)) (status : ℕ) (ending : Ending)
+    → status ≡ status_of ending → IsEnding words folder f g ending → Grows old new (text_of ending) → status ≡ 1 → IsNoCommand words × Grows old new usage_line
+usage_in words folder f g old new status (Done printed) is ends text e = absurd (omega (arith, is, e))
+usage_in words folder f g old new status Usage is ends text e = (ends, text)
+usage_in words folder f g old new status Refused is ends text e = absurd (omega (arith, is, e))
+usage_in words folder f g old new status (WrongLine line) is ends text e = absurd (omega (arith, is, e))
+usage_in words folder f g old new status (Unread name) is ends text e = absurd (omega (arith, is, e))
+
+pub usage : (words : List (List ℕ)) (folder : Option Folder) (f g : ℕ) (old new : Option (List ℕ)) (c d status : ℕ) → IsEnd words folder f g old new c d status → status ≡ 1
+    → IsNoCommand words × Grows old new usage_line
+usage words folder f g old new c d status h e =
+    let r = reported words folder f g old new c d status h (omega (arith, e)) in usage_in words folder f g old new status r.ending r.status_is r.ends r.text e
+
+refused_in : (words : List (List ℕ)) (folder : Option Folder) (f g : ℕ) (old new : Option (List ℕ)) (status : ℕ) (ending : Ending)
+    → status ≡ status_of ending → IsEnding words folder f g ending → Grows old new (text_of ending) → status ≡ 2 → IsRefused words folder × Grows old new refused_line
+refused_in words folder f g old new status (Done printed) is ends text e = absurd (omega (arith, is, e))
+refused_in words folder f g old new status Usage is ends text e = absurd (omega (arith, is, e))
+refused_in words folder f g old new status Refused is ends text e = (ends, text)
+refused_in words folder f g old new status (WrongLine line) is ends text e = absurd (omega (arith, is, e))
+refused_in words folder f g old new status (Unread name) is ends text e = absurd (omega (arith, is, e))
+
+pub refused : (words : List (List ℕ)) (folder : Option Folder) (f g : ℕ) (old new : Option (List ℕ)) (c d status : ℕ) → IsEnd words folder f g old new c d status → status ≡ 2
+    → IsRefused words folder × Grows old new refused_line
+refused words folder f g old new c d status h e =
+    let r = reported words folder f g old new c d status h (omega (arith, e)) in refused_in words folder f g old new status r.ending r.status_is r.ends r.text e
+
+wrong_line_in : (words : List (List ℕ)) (folder : Option Folder) (f g : ℕ) (old new : Option (List ℕ)) (status : ℕ) (ending : Ending)
+    → status ≡ status_of ending → IsEnding words folder f g ending → Grows old new (text_of ending) → status ≡ 3 → (line : ℕ) × IsWrongLine words folder line × Grows old new (wrong_line line)
+wrong_line_in words folder f g old new status (Done printed) is ends text e = absurd (omega (arith, is, e))
+wrong_line_in words folder f g old new status Usage is ends text e = absurd (omega (arith, is, e))
+wrong_line_in words folder f g old new status Refused is ends text e = absurd (omega (arith, is, e))
+wrong_line_in words folder f g old new status (WrongLine line) is ends text e = (line, ends, text)
+wrong_line_in words folder f g old new status (Unread name) is ends text e = absurd (omega (arith, is, e))
+
+pub in_wrong_line : (words : List (List ℕ)) (folder : Option Folder) (f g : ℕ) (old new : Option (List ℕ)) (c d status : ℕ) → IsEnd words folder f g old new c d status → status ≡ 3
+    → (line : ℕ) × IsWrongLine words folder line × Grows old new (wrong_line line)
+in_wrong_line words folder f g old new c d status h e =
+    let r = reported words folder f g old new c d status h (omega (arith, e)) in wrong_line_in words folder f g old new status r.ending r.status_is r.ends r.text e
+
+unread_in : (words : List (List ℕ)) (folder : Option Folder) (f g : ℕ) (old new : Option (List ℕ)) (status : ℕ) (ending : Ending)
+    → status ≡ status_of ending → IsEnding words folder f g ending → Grows old new (text_of ending) → status ≡ 4 → (name : List ℕ) × IsUnread words f g name × Grows old new (unread_line name)
+unread_in words folder f g old new status (Done printed) is ends text e = absurd (omega (arith, is, e))
+unread_in words folder f g old new status Usage is ends text e = absurd (omega (arith, is, e))
+unread_in words folder f g old new status Refused is ends text e = absurd (omega (arith, is, e))
+unread_in words folder f g old new status (WrongLine line) is ends text e = absurd (omega (arith, is, e))
+unread_in words folder f g old new status (Unread name) is ends text e = (string_bytes name, ends, text)
+
+pub unread : (words : List (List ℕ)) (folder : Option Folder) (f g : ℕ) (old new : Option (List ℕ)) (c d status : ℕ) → IsEnd words folder f g old new c d status → status ≡ 4
+    → (name : List ℕ) × IsUnread words f g name × Grows old new (unread_line name)
+unread words folder f g old new c d status h e =
+    let r = reported words folder f g old new c d status h (omega (arith, e)) in unread_in words folder f g old new status r.ending r.status_is r.ends r.text e
+
+below_five : (ending : Ending) → status_of ending < 5
+below_five (Done printed) = omega arith
+below_five Usage = omega arith
+below_five Refused = omega arith
+below_five (WrongLine line) = omega arith
+below_five (Unread name) = omega arith
+
+pub failed : (words : List (List ℕ)) (folder : Option Folder) (f g : ℕ) (old new : Option (List ℕ)) (c d status : ℕ) → IsEnd words folder f g old new c d status → status ≡ 5 → Rises c d × Grows old new []
+failed words folder f g old new c d status (inl r) e = absurd (omega (arith, below_five r.ending, r.status_is, e))
+failed words folder f g old new c d status (inr (inl h)) e = (h.rose, h.nothing)
+failed words folder f g old new c d status (inr (inr h)) e = absurd (omega (arith, h.is, e))
+
+pub memory : (words : List (List ℕ)) (folder : Option Folder) (f g : ℕ) (old new : Option (List ℕ)) (c d status : ℕ) → IsEnd words folder f g old new c d status → status ≡ 8 → Grows old new memory_line ⊎ Grows old new []
+memory words folder f g old new c d status (inl r) e = absurd (omega (arith, below_five r.ending, r.status_is, e))
+memory words folder f g old new c d status (inr (inl h)) e = absurd (omega (arith, h.is, e))
+memory words folder f g old new c d status (inr (inr h)) e = h.line
+
+known_ending : (ending : Ending) (status : ℕ) → status ≡ status_of ending → IsStatus status
+known_ending (Done printed) status h = inl h
+known_ending Usage status h = inr (inl h)
+known_ending Refused status h = inr (inr (inl h))
+known_ending (WrongLine line) status h = inr (inr (inr (inl h)))
+known_ending (Unread name) status h = inr (inr (inr (inr (inl h))))
+
+pub known : (words : List (List ℕ)) (folder : Option Folder) (f g : ℕ) (old new : Option (List ℕ)) (c d status : ℕ) → IsEnd words folder f g old new c d status → IsStatus status
+known words folder f g old new c d status (inl r) = known_ending r.ending status r.status_is
+known words folder f g old new c d status (inr (inl h)) = inr (inr (inr (inr (inr (inl h.is)))))
+known words folder f g old new c d status (inr (inr h)) = inr (inr (inr (inr (inr (inr h.is)))))
+
+no_command_in : (words : List (List ℕ)) (folder : Option Folder) (f g status : ℕ) (ending : Ending)
+    → status ≡ status_of ending → IsEnding words folder f g ending → IsNoCommand words → status ≡ 1
+no_command_in words folder f g status (Done printed) is ends none = absurd (none ends.script ends.scenario ends.words_are)
+no_command_in words folder f g status Usage is ends none = is
+no_command_in words folder f g status Refused is ends none = absurd (none ends.script ends.scenario ends.words_are)
+no_command_in words folder f g status (WrongLine line) is ends none = absurd (none ends.script ends.scenario ends.words_are)
+no_command_in words folder f g status (Unread name) is ends none = absurd (none ends.script ends.scenario ends.words_are)
+
+pub no_command : (words : List (List ℕ)) (folder : Option Folder) (f g : ℕ) (old new : Option (List ℕ)) (c d status : ℕ) → IsEnd words folder f g old new c d status → IsNoCommand words → Gives 1 f g c d status
+no_command words folder f g old new c d status (inl r) none still calm = inl (no_command_in words folder f g status r.ending r.status_is r.ends none)
+no_command words folder f g old new c d status (inr (inl h)) none still calm = absurd (calm h.rose)
+no_command words folder f g old new c d status (inr (inr h)) none still calm = inr h.is

@@ -1,0 +1,177 @@
+-- How a command ends: what holds of its words and files, the status, and what is printed.
+use Rattle.std.specs.Prelude.{◌≡◌, ℕ, ◌≤◌, ◌⊎◌, List, [], ◌∷◌, ◌++◌, Option, Some, length, codes}
+use Rattle.std.specs.Fmt.{decimal}
+use Rattle.std.specs.String.{string_bytes}
+use Rattle.outside_ports.specs.Counts.{Rises}
+use Rattle.outside_ports.specs.Files.{Folder, Holds, IsLonger}
+use Rattle.outside_ports.specs.Told.{Grows}
+use Rattle.outside_ports.specs.declared.mem_port.Arrival.{Arrival}
+use Rattle.proxy_top.specs.declared.script.AnswerAll.{AnswerAll}
+use Rattle.proxy_top.specs.declared.top.Ending.{Ending}
+use Rattle.proxy_top.specs.declared.top.Ending.TheVariants.{Done, Usage, Refused, WrongLine, Unread}
+use Rattle.proxy_top.specs.Commands.{sim_words, IsNoCommand}
+use Rattle.proxy_top.specs.Script.{IsScript}
+use Rattle.proxy_top.specs.Scenario.{IsScenario, IsFirstWrong}
+use Rattle.proxy_top.specs.Solo.{solo, trace}
+
+-- the file of this name has these bytes, which are a script with this answer
+pub record ReadsScript (folder : Option Folder) (name : List ℕ) (answer : AnswerAll) : Type 0 where
+  pub text : List ℕ
+  pub held : Holds folder name text
+  pub script : IsScript text answer
+
+-- the words are `sim`, the script and the scenario read, and this is the trace of the solo run
+pub record IsDone (words : List (List ℕ)) (folder : Option Folder) (printed : List ℕ) : Type 0 where
+  pub script : List ℕ
+  pub scenario : List ℕ
+  pub words_are : words ≡ sim_words script scenario
+  pub answer : AnswerAll
+  pub accepted : ReadsScript folder script answer
+  pub text : List ℕ
+  pub held : Holds folder scenario text
+  pub arrivals : List Arrival
+  pub end : ℕ
+  pub reads : IsScenario text arrivals end
+  pub trace_is : printed ≡ trace (solo answer arrivals) end
+
+-- the words are `sim`, and the script is in no form, or longer than 1 MiB
+pub record IsRefused (words : List (List ℕ)) (folder : Option Folder) : Type 0 where
+  pub script : List ℕ
+  pub scenario : List ℕ
+  pub words_are : words ≡ sim_words script scenario
+  pub refused : ((text : List ℕ) × Holds folder script text × ((answer : AnswerAll) → IsScript text answer → ⊥)) ⊎ IsLonger folder script 1048576
+
+-- the words are `sim` with a script that reads, and this line of the scenario is the first in no form, or 0 where the
+-- scenario is longer than 4 MiB
+pub record IsWrongLine (words : List (List ℕ)) (folder : Option Folder) (line : ℕ) : Type 0 where
+  pub script : List ℕ
+  pub scenario : List ℕ
+  pub words_are : words ≡ sim_words script scenario
+  pub answer : AnswerAll
+  pub accepted : ReadsScript folder script answer
+  pub wrong : ((text : List ℕ) × Holds folder scenario text × IsFirstWrong text line) ⊎ ((line ≡ 0) × IsLonger folder scenario 4194304)
+
+-- the words are `sim`, and the file of one of the two names was not read: the count of faults rose
+pub record IsUnread (words : List (List ℕ)) (old_faults new_faults : ℕ) (name : List ℕ) : Type 0 where
+  pub script : List ℕ
+  pub scenario : List ℕ
+  pub words_are : words ≡ sim_words script scenario
+  pub name_is : (name ≡ script) ⊎ (name ≡ scenario)
+  pub rose : Rises old_faults new_faults
+
+abbrev pub IsEnding : List (List ℕ) → Option Folder → ℕ → ℕ → Ending → Type 0
+IsEnding words folder old_faults new_faults (Done printed) = IsDone words folder printed.items
+IsEnding words folder old_faults new_faults Usage = IsNoCommand words
+IsEnding words folder old_faults new_faults Refused = IsRefused words folder
+IsEnding words folder old_faults new_faults (WrongLine line) = IsWrongLine words folder line
+IsEnding words folder old_faults new_faults (Unread name) = IsUnread words old_faults new_faults (string_bytes name)
+
+abbrev pub status_of : Ending → ℕ
+status_of (Done printed) = 0
+status_of Usage = 1
+status_of Refused = 2
+status_of (WrongLine line) = 3
+status_of (Unread name) = 4
+
+abbrev pub usage_line : List ℕ
+usage_line = codes "usage: sipscript check FILE, sim FILE SCENARIO, load N, serve FILE [options]\n"
+
+abbrev pub refused_line : List ℕ
+refused_line = codes "refused 3 at 0..0\n"
+
+abbrev pub wrong_line : ℕ → List ℕ
+wrong_line line = codes "scenario line " ++ (decimal line ++ 10 ∷ [])
+
+abbrev pub unread_line : List ℕ → List ℕ
+unread_line name = codes "cannot read " ++ (name ++ 10 ∷ [])
+
+abbrev pub memory_line : List ℕ
+memory_line = codes "out of memory\n"
+
+abbrev pub text_of : Ending → List ℕ
+text_of (Done printed) = printed.items
+text_of Usage = usage_line
+text_of Refused = refused_line
+text_of (WrongLine line) = wrong_line line
+text_of (Unread name) = unread_line (string_bytes name)
+
+-- nothing was printed, and the console's count of faults rose
+pub record Fails (old new : Option (List ℕ)) (old_faults new_faults status : ℕ) : Type 0 where
+  pub is : status ≡ 5
+  pub rose : Rises old_faults new_faults
+  pub nothing : Grows old new []
+
+-- no memory was found: the line that says so was printed, or nothing
+pub record RunsOut (old new : Option (List ℕ)) (status : ℕ) : Type 0 where
+  pub is : status ≡ 8
+  pub line : Grows old new memory_line ⊎ Grows old new []
+
+-- this text was printed with this status, unless the console failed or no memory was found
+abbrev pub IsPrinted : ℕ → List ℕ → Option (List ℕ) → Option (List ℕ) → ℕ → ℕ → ℕ → Type 0
+IsPrinted meant text old new old_faults new_faults status =
+    ((status ≡ meant) × Grows old new text) ⊎ (Fails old new old_faults new_faults status ⊎ RunsOut old new status)
+
+-- the command ended in one of the ways, and that was printed
+pub record IsReported (words : List (List ℕ)) (folder : Option Folder) (old_files new_files : ℕ) (old new : Option (List ℕ)) (status : ℕ) : Type 0 where
+  pub ending : Ending
+  pub ends : IsEnding words folder old_files new_files ending
+  pub status_is : status ≡ status_of ending
+  pub text : Grows old new (text_of ending)
+
+abbrev pub IsEnd : List (List ℕ) → Option Folder → ℕ → ℕ → Option (List ℕ) → Option (List ℕ) → ℕ → ℕ → ℕ → Type 0
+IsEnd words folder old_files new_files old new old_faults new_faults status =
+    IsReported words folder old_files new_files old new status ⊎ (Fails old new old_faults new_faults status ⊎ RunsOut old new status)
+
+-- each status that there is
+abbrev pub IsStatus : ℕ → Type 0
+IsStatus status =
+    (status ≡ 0) ⊎ ((status ≡ 1) ⊎ ((status ≡ 2) ⊎ ((status ≡ 3) ⊎ ((status ≡ 4) ⊎ ((status ≡ 5) ⊎ (status ≡ 8))))))
+
+-- the status, where no count of faults rose: the one that is meant, or the one of no memory
+abbrev pub Gives : ℕ → ℕ → ℕ → ℕ → ℕ → ℕ → Type 0
+Gives meant old_files new_files old_faults new_faults status =
+    ¬ Rises old_files new_files → ¬ Rises old_faults new_faults → (status ≡ meant) ⊎ (status ≡ 8)
+
+-- the folder is told, and this name holds these bytes, which are no more than the limit
+pub record Tells (folder : Option Folder) (name : List ℕ) (limit : ℕ) (text : List ℕ) : Type 0 where
+  pub files : Folder
+  pub told : folder ≡ Some files
+  pub held : files name ≡ Some text
+  pub short : length text ≤ limit
+
+-- the words are `sim`, and both files read
+pub record IsReady (words : List (List ℕ)) (folder : Option Folder) : Type 0 where
+  pub script : List ℕ
+  pub scenario : List ℕ
+  pub words_are : words ≡ sim_words script scenario
+  pub text : List ℕ
+  pub held : Tells folder script 1048576 text
+  pub answer : AnswerAll
+  pub accepted : IsScript text answer
+  pub lines : List ℕ
+  pub told : Tells folder scenario 4194304 lines
+  pub arrivals : List Arrival
+  pub end : ℕ
+  pub reads : IsScenario lines arrivals end
+
+-- the words are `sim`, and the script is in no form
+pub record IsInNoForm (words : List (List ℕ)) (folder : Option Folder) : Type 0 where
+  pub script : List ℕ
+  pub scenario : List ℕ
+  pub words_are : words ≡ sim_words script scenario
+  pub text : List ℕ
+  pub held : Tells folder script 1048576 text
+  pub refused : (answer : AnswerAll) → IsScript text answer → ⊥
+
+-- the words are `sim`, the script reads, and this line of the scenario is the first in no form
+pub record IsInWrongLine (words : List (List ℕ)) (folder : Option Folder) (line : ℕ) : Type 0 where
+  pub script : List ℕ
+  pub scenario : List ℕ
+  pub words_are : words ≡ sim_words script scenario
+  pub text : List ℕ
+  pub held : Tells folder script 1048576 text
+  pub answer : AnswerAll
+  pub accepted : IsScript text answer
+  pub lines : List ℕ
+  pub told : Tells folder scenario 4194304 lines
+  pub wrong : IsFirstWrong lines line

@@ -1,0 +1,60 @@
+// Texts.
+
+ghost use Rattle.std.specs.Prelude.{◌≡◌, IfOk};
+ghost use Rattle.std.specs.Str.{bytes_eq};
+
+use sqlite_items::Items;
+use std::alloc::{AllocError as NoMemory, Global};
+use std::marker::Model;
+
+/// A text, by its bytes.
+#[derive(Debug, Drop)]
+pub struct Text {
+    list: Items<u8>,
+}
+
+impl Model for Text {
+    ghost use Rattle.std.specs.Prelude.{List, ℕ};
+
+    ghost Value = { List ℕ };
+
+    ghost view = { λ t. t.list };
+}
+
+impl Text {
+    /// The text of these bytes.
+    pub fn of(list: Vec<u8>) -> Text
+        ensures { result ≡ list.items }
+    {
+        Text {
+            list: Items::from_vec(list),
+        }
+    }
+
+    /// A text of a copy of these bytes.
+    pub fn from_slice(alloc: Global, bytes: &[u8]) -> Result<Text, NoMemory>
+        ensures { IfOk result (λ t. t ≡ bytes.now) }
+    {
+        let list = Items::from_slice(alloc, bytes)?;
+        Ok(Text { list })
+    }
+
+    pub fn bytes(&self) -> &[u8]
+        ensures { result.now ≡ self.now }
+    {
+        self.list.as_slice()
+    }
+
+    pub fn copy(&self, alloc: Global) -> Result<Text, NoMemory>
+        ensures { IfOk result (λ t. t ≡ self.now) }
+    {
+        Text::from_slice(alloc, self.bytes())
+    }
+
+    /// The two texts have the same bytes.
+    pub fn is_same(&self, other: &Text) -> bool
+        ensures { result ≡ bytes_eq self.now other.now }
+    {
+        self.bytes() == other.bytes()
+    }
+}
