@@ -1,11 +1,11 @@
 //! The lines of a scenario.
 
-ghost use Rattle.std.specs.Prelude.{◌≡◌, ◌≤◌, ◌++◌, ℕ, None, OnOk, Err, All, IfOk, IfSome, IfNone};
+ghost use Rattle.std.specs.Prelude.{◌≡◌, ◌≤◌, ℕ, None, OnOk, Err, All, IfOk, IfSome, IfNone};
 ghost use Rattle.outside_ports.specs.declared.port.Addr.{Addr as Address};
 ghost use Rattle.outside_ports.specs.MemPort.{IsInOrder, IsShort};
 ghost use Rattle.proxy_top.specs.declared.scenario.Line.{Line as LineForm};
 ghost use Rattle.proxy_top.specs.Scenario.{State, IsLine, Takes, IsScenario, IsFirstWrong, last_moment, nothing_read};
-ghost use Rattle.proxy_top.specs.Draft.{IsDraft, shown, pending_arrival};
+ghost use Rattle.proxy_top.specs.Draft.{IsDraft, shown};
 
 use crate::numbers::{address, number, split_once};
 use outside_ports::{Addr, Arrival, Bytes};
