@@ -14,6 +14,8 @@ mod mem_console;
 mod mem_files;
 mod mem_port;
 mod port;
+#[cfg(test)]
+mod tests;
 
 pub use bytes::Bytes;
 pub use console::{Console, PrintEnd};

@@ -4,6 +4,8 @@
 #![tactic(auto)]
 
 mod plain;
+#[cfg(test)]
+mod tests;
 
 pub use plain::{PlainRequest, read_plain};
 pub use sip_words::Span;
