@@ -5,7 +5,7 @@
 
 mod plain;
 #[cfg(test)]
-mod tests;
+mod plain_tests;
 
 pub use plain::{PlainRequest, read_plain};
 pub use sip_words::Span;
