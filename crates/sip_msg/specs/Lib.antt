@@ -1,2 +1,3 @@
 pub mod PlainReader
 pub mod PlainPlaces
+pub mod PlainForm

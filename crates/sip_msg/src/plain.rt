@@ -1,6 +1,8 @@
-ghost use Rattle.std.specs.Prelude.{◌≡◌, ◌≤◌, ◌<◌, length, IfSome};
+ghost use Rattle.std.specs.Prelude.{◌≡◌, ◌≤◌, ◌<◌, length, Some, IfSome};
 ghost use Rattle.std.specs.List.{list_all};
 ghost use Rattle.sip_words.specs.Spans.{IsWithin};
+ghost use Rattle.sip_msg.specs.declared.plain.PlainRequest.{PlainRequest as PlainPlaces};
+ghost use Rattle.sip_msg.specs.PlainForm.{IsPlainRequest};
 ghost use Rattle.sip_msg.specs.PlainPlaces.{LiesIn};
 ghost use Rattle.sip_msg.specs.PlainReader.{is_uri_byte, exactly_at, uri_at, number_below, address_at, port_at, branch_at, request_line_at, line_to, sent_by_at, branch_param_at, via_line, from_line, to_line, call_id_line, cseq_line, rest_end, plain_at};
 
@@ -267,11 +269,9 @@ fn rest_end(text: &[u8], from: usize) -> Option<usize>
     exactly_at(text, hops_end, b"\r\nContent-Length: 0\r\n\r\n")
 }
 
-/// The plain request that these bytes are, if they are one: at most 2,048 bytes that are the lines
-/// `OPTIONS U SIP/2.0`, `Via: SIP/2.0/UDP IP:PORT;rport;branch=B`, `From: <U>;tag=K`, `To: <U>`, `Call-ID: C`,
-/// `CSeq: N OPTIONS`, `Max-Forwards: H`, `Content-Length: 0` and the empty line, each with its CRLF, and nothing more.
+/// The plain request that these bytes are, if they are one.
 #[tactic(auto, unfolding(crate::specs::PlainReader::plain_at))]
-pub fn read_plain(b: &[u8]) -> Option<PlainRequest>
+fn plain_at(b: &[u8]) -> Option<PlainRequest>
     ensures exact { result ≡ plain_at b.now }
     ensures places { IfSome result (LiesIn b.now) }
 {
@@ -294,4 +294,20 @@ pub fn read_plain(b: &[u8]) -> Option<PlainRequest>
         cseq: cseq.field,
     };
     (end == b.len()).then_some(plain)
+}
+
+/// The plain request that these bytes are, if they are one: at most 2,048 bytes that are the lines
+/// `OPTIONS U SIP/2.0`, `Via: SIP/2.0/UDP IP:PORT;rport;branch=B`, `From: <U>;tag=K`, `To: <U>`, `Call-ID: C`,
+/// `CSeq: N OPTIONS`, `Max-Forwards: H`, `Content-Length: 0` and the empty line, each with its CRLF, and nothing more.
+#[tactic(auto, using(crate::proofs::PlainTakes::plain_takes))]
+pub fn read_plain(b: &[u8]) -> Option<PlainRequest>
+    // What is read is spelled by its lines, each span being the place of its part.
+    ensures found { IfSome result (IsPlainRequest b.now) }
+    // What the lines of a plain request spell is read, and nothing else can be.
+    ensures only { (plain : PlainPlaces) → IsPlainRequest b.now plain → result ≡ Some plain }
+    // The same as a function.
+    ensures exact { result ≡ plain_at b.now }
+    ensures places { IfSome result (LiesIn b.now) }
+{
+    plain_at(b)
 }

@@ -1,0 +1,2 @@
+pub mod PlainTakes
+pub mod PlainAgain
