@@ -1,2 +1,5 @@
 pub mod PlainReader
 pub mod PlainPlaces
+pub mod Start
+pub mod Fields
+pub mod Values
