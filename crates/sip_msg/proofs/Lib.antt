@@ -1,2 +1,4 @@
 pub mod Firsts
 pub mod Lists
+pub mod Rows
+pub mod Only

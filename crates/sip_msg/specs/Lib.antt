@@ -3,3 +3,4 @@ pub mod PlainPlaces
 pub mod Start
 pub mod Fields
 pub mod Values
+pub mod Table

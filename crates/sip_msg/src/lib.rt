@@ -9,10 +9,12 @@
 #![tactic(auto)]
 
 mod fields;
+mod message;
 mod plain;
 mod start;
 mod values;
 
+pub use message::{Message, MsgFault};
 pub use plain::{PlainRequest, read_plain};
 pub use sip_words::Span;
 pub use start::Start;
