@@ -2,3 +2,4 @@ pub mod Firsts
 pub mod Lists
 pub mod Rows
 pub mod Only
+pub mod Places

@@ -4,3 +4,4 @@ pub mod Start
 pub mod Fields
 pub mod Values
 pub mod Table
+pub mod Basis

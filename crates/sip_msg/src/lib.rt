@@ -8,12 +8,14 @@
 //! Nothing here takes memory.
 #![tactic(auto)]
 
+mod basis;
 mod fields;
 mod message;
 mod plain;
 mod start;
 mod values;
 
+pub use basis::{Basis, read_basis};
 pub use message::{Message, MsgFault};
 pub use plain::{PlainRequest, read_plain};
 pub use sip_words::Span;

@@ -12,7 +12,7 @@ use sip_fields::{CSeq, NameAddr, Via};
 use sip_scan::{Head, ScanFault, scan, start_line};
 
 /// The most bytes that a message may have.
-pub const LONGEST: usize = 8192;
+pub(crate) const LONGEST: usize = 8192;
 
 /// A request or a response, with each part as a span of its datagram.
 #[derive(Debug, Drop)]
