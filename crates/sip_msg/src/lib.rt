@@ -13,6 +13,8 @@ mod fields;
 mod message;
 mod plain;
 mod start;
+#[cfg(test)]
+mod tests;
 mod values;
 
 pub use basis::{Basis, read_basis};

@@ -10,16 +10,10 @@ use sip_words::words::{stands, word_at, word_end};
 /// A start line.
 #[derive(Clone, Copy, Debug, PartialEq, Eq)]
 pub enum Start {
-    Request {
-        method: Span,
-        uri: Span,
-    },
+    Request { method: Span, uri: Span },
     /// The code is 100 to 699. The reason is all that stands behind the SP behind it. Where there is no such SP the
     /// span is empty and begins directly behind the code.
-    Status {
-        code: u16,
-        reason: Span,
-    },
+    Status { code: u16, reason: Span },
 }
 
 /// The place behind a SP.
