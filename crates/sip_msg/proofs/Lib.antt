@@ -3,3 +3,4 @@ pub mod Lists
 pub mod Rows
 pub mod Only
 pub mod Places
+pub mod Complete

@@ -4,6 +4,10 @@ ghost use Rattle.std.specs.List.{list_all};
 ghost use Rattle.sip_words.specs.Spans.{IsBetween, IsWithin};
 ghost use Rattle.sip_scan.specs.Field.{IsField};
 ghost use Rattle.sip_scan.specs.declared.field.Kind.TheVariants as kind;
+ghost use Rattle.sip_fields.specs.Via.{IsViaBetween};
+ghost use Rattle.sip_fields.specs.NameAddr.{IsNameAddrBetween};
+ghost use Rattle.sip_fields.specs.CSeq.{IsCSeqBetween};
+ghost use Rattle.sip_msg.specs.Places.{InFirst, ValuesLie};
 ghost use Rattle.sip_msg.specs.Start.{IsStartBetween};
 ghost use Rattle.sip_msg.specs.Values.{call_id_at, whole_number, hops_at, via_of, name_addr_of, call_id_of, cseq_of, max_forwards_of, content_length_of, next_via, next_route, next_value, list_reads, has_cookie, fits, values_of, HasValues};
 
@@ -78,6 +82,7 @@ pub fn via_of(b: &[u8], fields: &[HeaderSpan]) -> Option<Via>
     requires { All (IsField b.now) fields.now }
     ensures value { result ≡ via_of b.now fields.now }
     ensures branch { IfSome result (λ via. IfSome via.branch (IsWithin b.now)) }
+    ensures lies { IfSome result (λ via. InFirst kind.Via fields.now (λ i j. IsViaBetween i j via)) }
 {
     let field = first(b, fields, Kind::Via)?;
     read_via(b, field.value).ok()
@@ -87,7 +92,8 @@ pub fn via_of(b: &[u8], fields: &[HeaderSpan]) -> Option<Via>
 #[tactic(auto, unfolding(crate::specs::Values::name_addr_of))]
 fn name_addr_of(b: &[u8], fields: &[HeaderSpan], kind: Kind) -> Option<NameAddr>
     requires { All (IsField b.now) fields.now }
-    ensures { result ≡ name_addr_of kind b.now fields.now }
+    ensures value { result ≡ name_addr_of kind b.now fields.now }
+    ensures lies { IfSome result (λ n. InFirst kind fields.now (λ i j. IsNameAddrBetween i j n)) }
 {
     let field = first(b, fields, kind)?;
     let value = read_name_addr(b, field.value).ok()?;
@@ -101,7 +107,8 @@ fn name_addr_of(b: &[u8], fields: &[HeaderSpan], kind: Kind) -> Option<NameAddr>
 #[tactic(auto, unfolding(crate::specs::Values::call_id_of))]
 fn call_id_of(b: &[u8], fields: &[HeaderSpan]) -> Option<Span>
     requires { All (IsField b.now) fields.now }
-    ensures { result ≡ call_id_of b.now fields.now }
+    ensures value { result ≡ call_id_of b.now fields.now }
+    ensures lies { IfSome result (λ c. InFirst kind.CallId fields.now (λ i j. IsBetween i j c)) }
 {
     let field = first(b, fields, Kind::CallId)?;
     call_id_at(b, field.value)
@@ -113,6 +120,7 @@ fn cseq_of(b: &[u8], fields: &[HeaderSpan]) -> Option<CSeq>
     requires { All (IsField b.now) fields.now }
     ensures value { result ≡ cseq_of b.now fields.now }
     ensures within { IfSome result (λ c. IsWithin b.now c.method) }
+    ensures lies { IfSome result (λ c. InFirst kind.CSeq fields.now (λ i j. IsCSeqBetween i j c)) }
 {
     let field = first(b, fields, Kind::CSeq)?;
     read_cseq(b, field.value).ok()
@@ -242,6 +250,7 @@ pub fn values_of(b: &[u8], start: Start, fields: &[HeaderSpan]) -> Option<Values
     requires fields { All (IsField b.now) fields.now }
     ensures value { result ≡ values_of b.now start fields.now }
     ensures parts { IfSome result (HasValues b.now fields.now) }
+    ensures lie { IfSome result (ValuesLie fields.now) }
 {
     let via = via_of(b, fields)?;
     let from = name_addr_of(b, fields, Kind::From)?;
