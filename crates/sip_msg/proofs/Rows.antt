@@ -16,7 +16,11 @@ use Rattle.sip_msg.specs.declared.start.Start.{Start}
 use Rattle.sip_msg.specs.declared.values.Values.{Values}
 use Rattle.sip_msg.specs.Start.{start_at, start_of}
 use Rattle.sip_msg.specs.Fields.{is_missing, is_repeated}
+use Rattle.sip_msg.specs.Start.{IsStartBetween}
+use Rattle.sip_msg.specs.Places.{PartsLie, LiesIn}
 use Rattle.sip_msg.specs.Values.{values_of}
+use Rattle.sip_scan.specs.Head as scan
+use Rattle.sip_msg.proofs.Complete.{start_stands}
 use Rattle.sip_msg.specs.Table.{head_of, fields_in, values_under, announced, is_above, left_in, first_row, fault_of, later_rows, HasParts, Reads}
 
 pub too_long : (b : List ℕ) → 8192 < length b → fault_of b ≡ Some TooLong
@@ -142,3 +146,13 @@ message_found b line start h (Ok m) is ok none head begun parts = record {
 pub fault_found : (b : List ℕ) (line : Span) (start : Start) (h : Head) (r : Result Message MsgFault) → Begins b line start → scanned b ≡ Ok h → IfErr r (λ f. first_row (later_rows b start h) ≡ Some f) → IfErr r (λ f. fault_of b ≡ Some f)
 fault_found b line start h (Ok m) is ok fault = tt
 fault_found b line start h (Err f) is ok fault = later b line start h is ok ∙ fault
+
+pub message_lies : (b : List ℕ) (line : Span) (start : Start) (h : Head) (r : Result Message MsgFault) → Begins b line start → scanned b ≡ Ok h → scan.LiesIn b h → IsStartBetween line.from line.to start → IfOk r (λ m. m.head ≡ h) → IfOk r (λ m. m.start ≡ start) → IfOk r (PartsLie b) → IfOk r (LiesIn b)
+message_lies b line start h (Err f) is ok head_lies between head begun parts = tt
+message_lies b line start h (Ok m) is ok head_lies between head begun parts =
+    let stands : line ≡ m.head.start = start_stands b line h (sym (head_is b line is.line_is) ∙ is_head b line start h is ok) ∙ ap (λ (x : Head). x.start) (sym head) in
+    record {
+      head = subst (λ (x : Head). scan.LiesIn b x) (sym head) head_lies;
+      start = subst (λ (x : Start). IsStartBetween m.head.start.from m.head.start.to x) (sym begun) (subst (λ (l : Span). IsStartBetween l.from l.to start) stands between);
+      parts = parts;
+    }

@@ -1,5 +1,6 @@
 ghost use Rattle.std.specs.Prelude.{◌≡◌, ◌≤◌, ◌-◌, All, IfErr, IfNone, IfOk, IfSome, None, Ok, Some, length, true, false};
 ghost use Rattle.sip_scan.specs.Field.{IsField};
+ghost use Rattle.sip_msg.specs.Places.{PartsLie, LiesIn, IsComplete};
 ghost use Rattle.sip_msg.specs.Start.{IsStartBetween};
 ghost use Rattle.sip_msg.specs.Table.{fault_of, first_row, later_rows, is_above, end_behind, HasParts, Reads};
 ghost use Rattle.sip_msg.specs.declared.message.Message.{Message};
@@ -83,6 +84,8 @@ fn message_behind(b: &[u8], start: Start, head: Head) -> Result<Message, MsgFaul
     ensures head { IfOk result (λ m. m.head ≡ head) }
     ensures start { IfOk result (λ m. m.start ≡ start) }
     ensures parts { IfOk result (HasParts b.now) }
+    ensures lie { IfOk result (PartsLie b.now) }
+    ensures complete { IfOk result (λ m. IsComplete m.head.fields.items) }
 {
     if is_missing(&head.fields) {
         return Err(MsgFault::Missing);
@@ -114,6 +117,8 @@ fn message_behind(b: &[u8], start: Start, head: Head) -> Result<Message, MsgFaul
 fn message_of(b: &[u8]) -> Result<Message, MsgFault>
     ensures found { IfOk result (Reads b.now) }
     ensures fault { IfErr result (λ f. fault_of b.now ≡ Some f) }
+    ensures places { IfOk result (LiesIn b.now) }
+    ensures complete { IfOk result (λ m. IsComplete m.head.fields.items) }
 {
     if LONGEST < b.len() {
         return Err(MsgFault::TooLong);
@@ -142,6 +147,10 @@ impl Message {
         ensures only { (m : Message) → Reads b.now m → result ≡ Ok m }
         // A fault is the first one that holds.
         ensures fault { IfErr result (λ f. fault_of b.now ≡ Some f) }
+        // Each span lies in the value of its field, and the message ends behind its head and within the datagram.
+        ensures places { IfOk result (LiesIn b.now) }
+        // There is a Via, and From, To, Call-ID and CSeq stand once.
+        ensures complete { IfOk result (λ m. IsComplete m.head.fields.items) }
     {
         message_of(b)
     }
