@@ -1,5 +1,5 @@
 -- Which fields stand, once none is missing or repeated; and where the start line of a head stands.
-use Rattle.std.proofs.Common.{◌≡◌, ℕ, ◌+◌, ◌<◌, ◌≤◌, ◌==◌, Bool, true, false, cond, List, length, take, refl, sym, ap, ◌∙◌, arith, Option, Some, None, nat_lt, Result, Ok, Err}
+use Rattle.std.proofs.Common.{◌≡◌, ℕ, ◌+◌, ◌≤◌, ◌==◌, Bool, true, false, List, refl, ap, arith, Some, nat_lt}
 use Rattle.std.proofs.lemmas.Bool.Decides.{nat_tests}
 use Rattle.sip_words.specs.declared.Span.{Span}
 use Rattle.sip_words.specs.Bytes.{◌or◌}
@@ -10,7 +10,7 @@ use Rattle.sip_scan.specs.declared.field.HeaderSpan.{HeaderSpan}
 use Rattle.sip_scan.specs.declared.field.Kind.TheVariants as kind
 use Rattle.sip_scan.specs.Lines.{line_end}
 use Rattle.sip_scan.specs.Field.{fields_at}
-use Rattle.sip_scan.specs.Head.{head_behind, head}
+use Rattle.sip_scan.specs.Head.{head_behind}
 use Rattle.sip_msg.specs.Fields.{count, is_missing, is_repeated}
 use Rattle.sip_msg.specs.Places.{IsComplete}
 

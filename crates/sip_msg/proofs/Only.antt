@@ -1,5 +1,5 @@
 -- A datagram is one message at most.
-use Rattle.std.proofs.Common.{◌≡◌, ℕ, List, refl, sym, ap, ◌∙◌, Option, Some, None, Result, Ok, Err}
+use Rattle.std.proofs.Common.{◌≡◌, ℕ, List, sym, ap, ◌∙◌, Option, Some, Result, Ok, Err}
 use Rattle.std.specs.Prelude.{IfOk, IfErr}
 use Rattle.std.proofs.lemmas.Option.{same_Some, none-some}
 use Rattle.sip_words.specs.declared.Span.{Span}
@@ -12,7 +12,7 @@ use Rattle.sip_msg.specs.declared.message.MsgFault.{MsgFault}
 use Rattle.sip_msg.specs.declared.start.Start.{Start}
 use Rattle.sip_scan.specs.declared.field.Kind.TheVariants as kind
 use Rattle.sip_msg.specs.Values.{via_of, name_addr_of, call_id_of, cseq_of, max_forwards_of}
-use Rattle.sip_msg.specs.Table.{fault_of, head_of, end_of, HasParts, Reads}
+use Rattle.sip_msg.specs.Table.{fault_of, end_of, Reads}
 
 abbrev of_parts : Head → Start → Via → NameAddr → NameAddr → Span → CSeq → Option ℕ → ℕ → Message
 of_parts head start via from to call_id cseq max_forwards end = record { head = head; start = start; via = via; from = from; to = to; call_id = call_id; cseq = cseq; max_forwards = max_forwards; end = end }

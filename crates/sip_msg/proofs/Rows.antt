@@ -1,11 +1,9 @@
 -- Each row of the table of faults, once the rows above it don't hold.
-use Rattle.std.proofs.Common.{◌≡◌, ℕ, ◌<◌, ◌≤◌, ◌-◌, Bool, true, false, cond, List, [], ◌∷◌, length, take, refl, subst, sym, ap, ◌∙◌, arith, inl, inr, Option, Some, None, Result, Ok, Err}
-use Rattle.std.specs.Prelude.{nat_lt, is_none, IfOk, IfErr}
+use Rattle.std.proofs.Common.{◌≡◌, ℕ, ◌<◌, ◌≤◌, ◌-◌, true, false, List, length, take, refl, subst, sym, ap, ◌∙◌, inl, inr, Option, Some, None, Result, Ok, Err}
+use Rattle.std.specs.Prelude.{nat_lt, IfOk, IfErr}
 use Rattle.std.proofs.lemmas.Bool.{lt-ltb, le-ltb, cases_Bool}
 use Rattle.sip_words.specs.declared.Span.{Span}
 use Rattle.sip_scan.specs.declared.Head.{Head}
-use Rattle.sip_scan.specs.declared.field.HeaderSpan.{HeaderSpan}
-use Rattle.sip_scan.specs.declared.ScanFault.{ScanFault}
 use Rattle.sip_scan.specs.declared.ScanFault.TheVariants as scan_fault
 use Rattle.sip_scan.specs.Lines.{start_line}
 use Rattle.sip_scan.specs.Head.{head_behind, counted, scanned}
@@ -21,7 +19,7 @@ use Rattle.sip_msg.specs.Places.{PartsLie, LiesIn}
 use Rattle.sip_msg.specs.Values.{values_of}
 use Rattle.sip_scan.specs.Head as scan
 use Rattle.sip_msg.proofs.Complete.{start_stands}
-use Rattle.sip_msg.specs.Table.{head_of, fields_in, values_under, announced, is_above, left_in, first_row, fault_of, later_rows, HasParts, Reads}
+use Rattle.sip_msg.specs.Table.{head_of, is_above, first_row, fault_of, later_rows, HasParts, Reads}
 
 pub too_long : (b : List ℕ) → 8192 < length b → fault_of b ≡ Some TooLong
 unfolding fault_of

@@ -1,5 +1,5 @@
 -- What an answer to a malformed request rests on.
-use Rattle.std.specs.Prelude.{ℕ, ◌+◌, ◌-◌, ◌==◌, Bool, false, not, List, length, take, Option, Some, None, nat_lt, if◌then◌else◌, slice_range, codes}
+use Rattle.std.specs.Prelude.{ℕ, ◌+◌, ◌-◌, Bool, false, not, List, length, take, Option, Some, None, nat_lt, if◌then◌else◌, slice_range, codes}
 use Rattle.std.specs.Result.{result_ok}
 use Rattle.std.specs.Str.{bytes_eq}
 use Rattle.sip_words.specs.declared.bytes.Class.TheVariants.{Token, Visible, Digit}

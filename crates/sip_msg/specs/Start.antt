@@ -1,5 +1,5 @@
 -- Start lines (RFC 3261, sections 7.1, 7.2 and 25.1), as functions of the bytes up to the line's end and the place where it begins.
-use Rattle.std.specs.Prelude.{ℕ, ◌+◌, ◌≤◌, ◌==◌, List, length, take, Option, Some, None, nat_lt, if◌then◌else◌, codes}
+use Rattle.std.specs.Prelude.{ℕ, ◌+◌, ◌==◌, List, length, take, Option, Some, None, nat_lt, if◌then◌else◌, codes}
 use Rattle.sip_words.specs.declared.Span.{Span}
 use Rattle.sip_words.specs.declared.bytes.Class.TheVariants.{Token, Visible}
 use Rattle.sip_words.specs.Bytes.{◌or◌}

@@ -1,5 +1,5 @@
 -- What a datagram is: a message, or the first fault.
-use Rattle.std.specs.Prelude.{◌≡◌, ℕ, ◌+◌, ◌-◌, Bool, true, false, cond, List, [], ◌∷◌, length, Option, Some, None, nat_lt, is_none, option_map}
+use Rattle.std.specs.Prelude.{◌≡◌, ℕ, ◌+◌, ◌-◌, Bool, false, cond, List, [], ◌∷◌, length, Option, Some, None, nat_lt, is_none, option_map}
 use Rattle.sip_words.specs.Words.{◌>>=◌}
 use Rattle.sip_scan.specs.declared.Head.{Head}
 use Rattle.sip_scan.specs.declared.field.HeaderSpan.{HeaderSpan}

@@ -1,5 +1,5 @@
 -- The values of a message's fields, as functions of its bytes and fields (RFC 3261, sections 20 and 25.1).
-use Rattle.std.specs.Prelude.{◌≡◌, ℕ, zero, suc, ◌+◌, ◌-◌, ◌==◌, Bool, true, false, List, length, take, Option, Some, None, nat_lt, is_none, if◌then◌else◌, slice_range, codes, option_map}
+use Rattle.std.specs.Prelude.{◌≡◌, ℕ, zero, suc, ◌==◌, Bool, true, false, List, length, take, Option, Some, None, nat_lt, is_none, if◌then◌else◌, slice_range, codes, option_map}
 use Rattle.std.specs.List.{list_all, starts_with}
 use Rattle.std.specs.Prelude.{nat_eq}
 use Rattle.std.specs.Str.{bytes_eq}

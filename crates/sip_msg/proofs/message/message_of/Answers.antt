@@ -1,5 +1,4 @@
-use Rattle.std.proofs.Common.{◌≡◌, sym, ◌∙◌, ap, Err, Result, List, ℕ}
-use Rattle.sip_scan.specs.declared.Head.{Head}
+use Rattle.std.proofs.Common.{sym, ◌∙◌, ap, Err}
 use Rattle.sip_scan.specs.declared.ScanFault.{ScanFault}
 use Rattle.sip_msg.proofs.Rows.{begins, bad_header, too_many, never_not_sip, message_found, fault_found, message_lies}
 use Rattle.sip_msg.proofs.message.message_of.Goals as goal
