@@ -8,6 +8,7 @@ use Rattle.sip_scan.specs.declared.field.HeaderSpan.{HeaderSpan}
 use Rattle.sip_scan.specs.declared.field.Kind.{Kind}
 use Rattle.sip_scan.specs.declared.field.Kind.TheVariants as kind
 use Rattle.sip_scan.specs.Head as scan
+use Rattle.sip_msg.specs.declared.basis.Basis.{Basis}
 use Rattle.sip_msg.specs.declared.message.Message.{Message}
 use Rattle.sip_msg.specs.declared.values.Values.{Values}
 use Rattle.sip_msg.specs.Start.{IsStartBetween}
@@ -40,6 +41,11 @@ pub record LiesIn (b : List ℕ) (m : Message) : Type 0 where
   pub head : scan.LiesIn b m.head
   pub start : IsStartBetween m.head.start.from m.head.start.to m.start
   pub parts : PartsLie b m
+
+-- where a basis's parts lie in the bytes that have it
+pub record BasisLiesIn (front : List ℕ) (basis : Basis) : Type 0 where
+  pub head : scan.LiesIn front basis.head
+  pub via : InFirst kind.Via basis.head.fields.items (λ i j. IsViaBetween i j basis.via)
 
 -- a Via stands, once stand From, To, Call-ID and CSeq, and at most once Max-Forwards and Content-Length
 pub record IsComplete (fields : List HeaderSpan) : Type 0 where

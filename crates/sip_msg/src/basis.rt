@@ -2,6 +2,7 @@ ghost use Rattle.std.specs.Prelude.{◌≡◌, ◌≤◌, ◌<◌, IfSome, codes
 ghost use Rattle.std.specs.Str.{bytes_eq};
 ghost use Rattle.sip_words.specs.Spans.{IsWithin};
 ghost use Rattle.sip_words.specs.Words.{is_the};
+ghost use Rattle.sip_msg.specs.Places.{BasisLiesIn};
 ghost use Rattle.sip_msg.specs.Basis.{version_end, version_behind, uri_behind, first_from, answerable_at, basis_in, basis_of};
 
 use crate::Span;
@@ -129,11 +130,14 @@ fn answerable_at(b: &[u8], line: Span) -> Option<bool>
 /// The basis that these first bytes of a datagram have.
 #[tactic(auto, unfolding(crate::specs::Basis::basis_in))]
 fn basis_in(front: &[u8], too_long: bool) -> Option<Basis>
-    ensures { result ≡ basis_in front.now too_long }
+    ensures value { result ≡ basis_in front.now too_long }
+    ensures places { IfSome result (BasisLiesIn front.now) }
 {
     let line = start_line(front)?;
     let version_ok = answerable_at(front, line)?;
-    let head = scan(front).ok()?;
+    let Ok(head) = scan(front) else {
+        return None;
+    };
     let via = via_of(front, &head.fields)?;
     Some(Basis {
         head,
@@ -154,7 +158,10 @@ fn first_bytes(b: &[u8]) -> &[u8]
 /// bytes there is no first line with a method other than ACK, a URI and a version `SIP/` digits `.` digits; or the
 /// header fields don't read; or there are 129 of them or more; or the first value of the first Via doesn't read.
 pub fn read_basis(b: &[u8]) -> Option<Basis>
+    // It is the basis that the datagram has.
     ensures exact { result ≡ basis_of b.now }
+    // Each span lies in the value of its field, within the first 8,192 bytes.
+    ensures places { IfSome result (BasisLiesIn (take 8192 b.now)) }
 {
     basis_in(first_bytes(b), LONGEST < b.len())
 }
