@@ -1,26 +1,20 @@
 -- A datagram that is a plain request is read as one, with its parts where they stand.
-use Rattle.std.proofs.Common.{◌≡◌, ℕ, ◌+◌, ◌-◌, ◌<◌, ◌≤◌, ◌==◌, Bool, true, false, cond, List, [], ◌∷◌, ◌++◌, length, take, drop, refl, subst, sym, ap, ◌∙◌, inl, inr, arith, Option, Some, None, append_assoc, length-append, append-nil}
-use Rattle.std.specs.Prelude.{slice_range, nat_lt, nat_eq, codes, ◌&&◌}
-use Rattle.std.specs.List.{list_all, starts_with, AllByRecursion}
-use Rattle.std.specs.Str.{bytes_eq}
+use Rattle.std.proofs.Common.{◌≡◌, ℕ, ◌+◌, ◌≤◌, ◌==◌, true, false, List, [], ◌∷◌, ◌++◌, length, drop, refl, sym, ap, ◌∙◌, inl, inr, arith, Some, append_assoc, length-append, append-nil}
+use Rattle.std.specs.Prelude.{nat_lt, codes}
+use Rattle.std.specs.List.{list_all, AllByRecursion}
 use Rattle.std.specs.Str.Parse.{digits_value}
 use Rattle.std.proofs.lemmas.Bool.{lt-ltb, le-ltb, eq-eqb, ne_eqb, cases_eq, cases_Bool, both_ways, and_parts}
 use Rattle.std.proofs.lemmas.List.{drop_at}
 use Rattle.std.proofs.lemmas.Slice.Eq.{bytes_eq-Decides}
 use Rattle.sip_words.specs.declared.bytes.Class.{Class}
 use Rattle.sip_words.specs.declared.bytes.Class.TheVariants.{Token, Value, Unbroken, Digit, InBrackets, Visible}
-use Rattle.sip_words.specs.declared.Span.{Span}
 use Rattle.sip_words.specs.Bytes.{has}
 use Rattle.sip_words.specs.Spans.{span}
-use Rattle.sip_words.specs.Words.{word_end}
-use Rattle.sip_words.specs.Numbers.{number_at}
-use Rattle.sip_words.specs.Grammar.{IsWord}
 use Rattle.sip_words.proofs.Pieces.{behind, part_is, Ends, word_again, number_again}
 use Rattle.sip_msg.specs.declared.plain.PlainRequest.{PlainRequest}
 use Rattle.sip_msg.specs.declared.plain.Line.{Line}
-use Rattle.sip_msg.specs.declared.plain.ViaLine.{ViaLine}
-use Rattle.sip_msg.specs.PlainReader.{exactly_at, is_uri_byte, uri_at, number_below, address_at, port_at, branch_at, request_line_at, line_to, sent_by_at, branch_param_at, via_line, from_line, to_line, call_id_line, cseq_line, rest_end, parts, plain_at}
-use Rattle.sip_msg.specs.PlainForm.{IsUri, IsBelow, IsAddress, IsPort, IsSentBy, IsBranch, Parts, ArePlain, IsPlainRequest, crlf, request_line, via, from, to, call_id, cseq, last_lines, spelled, places}
+use Rattle.sip_msg.specs.PlainReader.{exactly_at, is_uri_byte, uri_at, number_below, address_at, port_at, branch_at, request_line_at, line_to, sent_by_at, branch_param_at, via_line, from_line, to_line, call_id_line, cseq_line, rest_end, plain_at}
+use Rattle.sip_msg.specs.PlainForm.{IsUri, IsBelow, IsAddress, IsPort, IsSentBy, IsBranch, Parts, ArePlain, IsPlainRequest, crlf, request_line, via, from, to, call_id, cseq, last_lines, spelled}
 
 assoc3 : (a b c r : List ℕ) → (a ++ (b ++ c)) ++ r ≡ a ++ (b ++ (c ++ r))
 assoc3 a b c r = append_assoc a (b ++ c) r ∙ ap (λ x. a ++ x) (append_assoc b c r)

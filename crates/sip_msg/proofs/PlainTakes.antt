@@ -1,22 +1,21 @@
 -- A datagram that is read as a plain request is one, and its parts stand where the reader says.
-use Rattle.std.proofs.Common.{◌≡◌, ℕ, ◌+◌, ◌-◌, ◌<◌, ◌≤◌, ◌==◌, Bool, true, false, cond, List, [], ◌∷◌, ◌++◌, length, take, drop, refl, subst, sym, ap, ◌∙◌, arith, Option, Some, None, length-append, append-nil}
+use Rattle.std.proofs.Common.{◌≡◌, ℕ, ◌+◌, ◌-◌, ◌<◌, ◌≤◌, ◌==◌, Bool, true, false, cond, List, [], ◌++◌, length, take, drop, refl, subst, sym, ap, ◌∙◌, arith, Option, Some, None, append-nil}
 use Rattle.std.specs.Prelude.{slice_range, nat_lt, nat_eq, codes, ◌&&◌}
 use Rattle.std.specs.List.{list_all, starts_with}
 use Rattle.std.specs.Str.{bytes_eq}
-use Rattle.std.specs.Str.Parse.{digits_value}
 use Rattle.std.proofs.lemmas.Bool.{ltb-true, ltb-false, eqb-true, and_parts}
 use Rattle.std.proofs.lemmas.List.{take-append-drop, drop_all}
 use Rattle.std.proofs.lemmas.Option.{cond_some, same_Some}
 use Rattle.std.proofs.lemmas.Slice.Eq.{bytes_eq-Decides}
 use Rattle.sip_words.specs.declared.bytes.Class.{Class}
-use Rattle.sip_words.specs.declared.bytes.Class.TheVariants.{Token, Value, Unbroken, Digit, InBrackets, Visible}
+use Rattle.sip_words.specs.declared.bytes.Class.TheVariants.{Token, Value, Unbroken, InBrackets, Visible}
 use Rattle.sip_words.specs.declared.Span.{Span}
 use Rattle.sip_words.specs.Spans.{span}
 use Rattle.sip_words.specs.Words.{word_end}
 use Rattle.sip_words.specs.Numbers.{number_at}
 use Rattle.sip_words.specs.Grammar.{IsWord}
 use Rattle.sip_words.proofs.Steps.{bind_some}
-use Rattle.sip_words.proofs.Takes.{Takes, then, takes, word_takes, number_takes, part_taken, not_none}
+use Rattle.sip_words.proofs.Takes.{Takes, then, takes, word_takes, number_takes, part_taken}
 use Rattle.sip_msg.specs.declared.plain.PlainRequest.{PlainRequest}
 use Rattle.sip_msg.specs.declared.plain.Line.{Line}
 use Rattle.sip_msg.specs.declared.plain.ViaLine.{ViaLine}

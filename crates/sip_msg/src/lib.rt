@@ -1,11 +1,26 @@
-//! SIP messages.
+//! SIP messages: what a datagram is (RFC 3261, sections 7, 18.3 and 25).
 //!
-//! So far the plain request alone: an OPTIONS whose lines stand in one order, which the first scripts answer.
+//! - [`Message::read`] tells the request or the response that a datagram is, each part as a span of the datagram, or
+//!   the first of nine faults.
+//! - [`read_basis`] tells what an answer to a malformed request rests on, where there is an answer.
+//! - [`read_plain`] reads the plain request alone: an OPTIONS whose lines stand in one order.
+//!
+//! Nothing here takes memory.
 #![tactic(auto)]
 
+mod basis;
+mod fields;
+mod message;
 mod plain;
 #[cfg(test)]
 mod plain_tests;
+mod start;
+#[cfg(test)]
+mod tests;
+mod values;
 
+pub use basis::{Basis, read_basis};
+pub use message::{Message, MsgFault};
 pub use plain::{PlainRequest, read_plain};
 pub use sip_words::Span;
+pub use start::Start;

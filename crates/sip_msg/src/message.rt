@@ -1,0 +1,157 @@
+ghost use Rattle.std.specs.Prelude.{◌≡◌, ◌≤◌, ◌-◌, All, IfErr, IfNone, IfOk, IfSome, None, Ok, Some, length, true, false};
+ghost use Rattle.sip_scan.specs.Field.{IsField};
+ghost use Rattle.sip_msg.specs.Places.{PartsLie, LiesIn, IsComplete};
+ghost use Rattle.sip_msg.specs.Start.{IsStartBetween};
+ghost use Rattle.sip_msg.specs.Table.{fault_of, first_row, later_rows, is_above, end_behind, HasParts, Reads};
+ghost use Rattle.sip_msg.specs.declared.message.Message.{Message};
+
+use crate::fields::{is_missing, is_repeated};
+use crate::start::start_at;
+use crate::values::values_of;
+use crate::{Span, Start};
+use sip_fields::{CSeq, NameAddr, Via};
+use sip_scan::{Head, ScanFault, scan, start_line};
+
+/// The most bytes that a message may have.
+pub(crate) const LONGEST: usize = 8192;
+
+/// A request or a response, with each part as a span of its datagram.
+#[derive(Debug, Drop)]
+pub struct Message {
+    pub head: Head,
+    pub start: Start,
+    /// The first value of the first Via.
+    pub via: Via,
+    pub from: NameAddr,
+    pub to: NameAddr,
+    pub call_id: Span,
+    pub cseq: CSeq,
+    pub max_forwards: Option<u8>,
+    /// Where the body ends: behind as many bytes as Content-Length says, or with the datagram. Bytes behind it are no
+    /// part of the message.
+    pub end: usize,
+}
+
+/// Why a datagram is no message.
+#[derive(Clone, Copy, Debug, PartialEq, Eq)]
+pub enum MsgFault {
+    /// There is no first line of SIP.
+    NotSip,
+    /// The first line is no request line and no status line of SIP/2.0.
+    BadStartLine,
+    /// There is no empty line, or a line of the head isn't a header field.
+    BadHeader,
+    /// Via, From, To, Call-ID or CSeq is absent.
+    Missing,
+    /// From, To, Call-ID, CSeq, Max-Forwards or Content-Length stands twice.
+    Repeated,
+    /// A value doesn't read, or doesn't fit the start line.
+    BadField,
+    /// Fewer bytes follow the head than Content-Length says.
+    ShortBody,
+    /// There are 129 header fields or more.
+    TooManyHeaders,
+    /// The datagram has more than 8,192 bytes.
+    TooLong,
+}
+
+/// Where the message ends. None where fewer bytes follow the head than Content-Length says.
+fn end_of(b: &[u8], body: usize, announced: Option<usize>) -> Option<usize>
+    requires { body ≤ length b.now }
+    ensures none { IfNone result (is_above (length b.now - body) announced ≡ true) }
+    ensures some { IfSome result (λ end. (is_above (length b.now - body) announced ≡ false) × (end ≡ end_behind b.now body announced)) }
+    ensures bounds { IfSome result (λ end. (body ≤ end) × (end ≤ length b.now)) }
+{
+    match announced {
+        Some(count) => {
+            if b.len() - body < count {
+                return None;
+            }
+            Some(body + count)
+        }
+        None => Some(b.len()),
+    }
+}
+
+/// The message whose start line and head these are, or the first of the later faults.
+#[tactic(auto, using(crate::proofs::Rows::missing, crate::proofs::Rows::repeated, crate::proofs::Rows::bad_field, crate::proofs::Rows::short_body, crate::proofs::Rows::no_later))]
+fn message_behind(b: &[u8], start: Start, head: Head) -> Result<Message, MsgFault>
+    requires start { IsStartBetween 0 (length b.now) start }
+    requires fields { All (IsField b.now) head.fields.items }
+    requires body { head.body ≤ length b.now }
+    ensures fault { IfErr result (λ f. first_row (later_rows b.now start head) ≡ Some f) }
+    ensures none { IfOk result (λ m. first_row (later_rows b.now start head) ≡ None) }
+    ensures head { IfOk result (λ m. m.head ≡ head) }
+    ensures start { IfOk result (λ m. m.start ≡ start) }
+    ensures parts { IfOk result (HasParts b.now) }
+    ensures lie { IfOk result (PartsLie b.now) }
+    ensures complete { IfOk result (λ m. IsComplete m.head.fields.items) }
+{
+    if is_missing(&head.fields) {
+        return Err(MsgFault::Missing);
+    }
+    if is_repeated(&head.fields) {
+        return Err(MsgFault::Repeated);
+    }
+    let Some(values) = values_of(b, start, &head.fields) else {
+        return Err(MsgFault::BadField);
+    };
+    let Some(end) = end_of(b, head.body, values.content_length) else {
+        return Err(MsgFault::ShortBody);
+    };
+    Ok(Message {
+        head,
+        start,
+        via: values.via,
+        from: values.from,
+        to: values.to,
+        call_id: values.call_id,
+        cseq: values.cseq,
+        max_forwards: values.max_forwards,
+        end,
+    })
+}
+
+/// The message, or the first fault.
+#[tactic(auto, using(crate::proofs::Rows::too_long, crate::proofs::Rows::not_sip, crate::proofs::Rows::bad_start))]
+fn message_of(b: &[u8]) -> Result<Message, MsgFault>
+    ensures found { IfOk result (Reads b.now) }
+    ensures fault { IfErr result (λ f. fault_of b.now ≡ Some f) }
+    ensures places { IfOk result (LiesIn b.now) }
+    ensures complete { IfOk result (λ m. IsComplete m.head.fields.items) }
+{
+    if LONGEST < b.len() {
+        return Err(MsgFault::TooLong);
+    }
+    let Some(line) = start_line(b) else {
+        return Err(MsgFault::NotSip);
+    };
+    let Some(start) = start_at(b, line) else {
+        return Err(MsgFault::BadStartLine);
+    };
+    match scan(b) {
+        Ok(head) => message_behind(b, start, head),
+        Err(ScanFault::NotSip) => Err(MsgFault::NotSip),
+        Err(ScanFault::BadHeader) => Err(MsgFault::BadHeader),
+        Err(ScanFault::TooManyHeaders) => Err(MsgFault::TooManyHeaders),
+    }
+}
+
+impl Message {
+    /// The request or response that the datagram is, or the first fault, in this order: TooLong, NotSip, BadStartLine,
+    /// BadHeader, TooManyHeaders, Missing, Repeated, BadField, ShortBody.
+    pub fn read(b: &[u8]) -> Result<Message, MsgFault>
+        // What is read is the message that the datagram is.
+        ensures found { IfOk result (Reads b.now) }
+        // A message that the datagram is is read, and nothing else can be.
+        ensures only { (m : Message) → Reads b.now m → result ≡ Ok m }
+        // A fault is the first one that holds.
+        ensures fault { IfErr result (λ f. fault_of b.now ≡ Some f) }
+        // Each span lies in the value of its field, and the message ends behind its head and within the datagram.
+        ensures places { IfOk result (LiesIn b.now) }
+        // There is a Via, and From, To, Call-ID and CSeq stand once.
+        ensures complete { IfOk result (λ m. IsComplete m.head.fields.items) }
+    {
+        message_of(b)
+    }
+}

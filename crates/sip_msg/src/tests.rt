@@ -1,0 +1,588 @@
+//! Datagrams worked out by hand.
+ghost use Rattle.std.specs.Prelude.{◌≤◌, length};
+
+use crate::{Message, MsgFault, Start, read_basis};
+use sip_fields::Host;
+use std::process::Abort;
+
+/// The datagram is a message that ends here.
+fn reads(rt: &impl Abort, text: &'static [u8], end: usize) {
+    match Message::read(text) {
+        Ok(m) => assert_eq!(rt; m.end, end),
+        Err(_) => assert!(rt; false),
+    }
+}
+
+/// The datagram has this fault first.
+fn refuses(rt: &impl Abort, text: &'static [u8], fault: MsgFault) {
+    assert!(rt; Message::read(text).err() == Some(fault));
+}
+
+/// The status line is read as this code, and its reason is these bytes.
+fn status(rt: &impl Abort, text: &'static [u8], code: u16, reason: &'static [u8]) {
+    match Message::read(text) {
+        Ok(m) => match m.start {
+            Start::Status {
+                code: found,
+                reason: at,
+            } => {
+                assert_eq!(rt; found, code);
+                assert!(rt; text.get(at.from..at.to) == Some(reason));
+            }
+            Start::Request { .. } => assert!(rt; false),
+        },
+        Err(_) => assert!(rt; false),
+    }
+}
+
+/// The datagram has a basis, with this version and length.
+fn has_basis(rt: &impl Abort, text: &'static [u8], version_ok: bool) {
+    match read_basis(text) {
+        Some(basis) => {
+            assert_eq!(rt; basis.version_ok, version_ok);
+            assert!(rt; !basis.too_long);
+        }
+        None => assert!(rt; false),
+    }
+}
+
+fn has_no_basis(rt: &impl Abort, text: &'static [u8]) {
+    assert!(rt; read_basis(text).is_none());
+}
+
+/// Compact names, a Via of two values over two lines.
+#[test]
+fn a_request_in_compact_form(rt: HostRuntime) {
+    match Message::read(
+        b"OPTIONS sip:a@127.0.0.1 SIP/2.0\r\nv: SIP/2.0/UDP 192.0.2.7:5070;branch=z9hG4bKx,\r\n SIP/2.0/UDP 10.0.0.1;branch=z9hG4bKy\r\nf: \"U\" <sip:u@h>;tag=2\r\nt: sip:a@127.0.0.1\r\ni: c3\r\nCSeq: 7 OPTIONS\r\n\r\n",
+    ) {
+        Ok(m) => {
+            assert!(rt; m.via.port == Some(5070));
+            assert!(rt; m.via.host == Host::V4(0xc000_0207));
+            assert!(rt; m.via.next.is_some());
+            assert!(rt; m.from.tag.is_some());
+            assert!(rt; m.to.tag.is_none());
+            assert!(rt; m.cseq.number == 7);
+            assert!(rt; m.max_forwards.is_none());
+            assert_eq!(rt; m.head.fields.len(), 5);
+        }
+        Err(_) => assert!(rt; false),
+    }
+}
+
+#[test]
+fn messages(rt: HostRuntime) {
+    reads(
+        &rt,
+        b"OPTIONS sip:b@h SIP/2.0\r\nv:SIP/2.0/UDP h;branch=z9hG4bKm\r\nf:<sip:a@h>;tag=1\r\nt:sip:b@h\r\ni:m\r\nCSeq:1 OPTIONS\r\n\r\n",
+        111,
+    );
+    reads(
+        &rt,
+        b"\r\n\n\rOPTIONS sip:b@h SIP/2.0\r\nv:SIP/2.0/UDP h;branch=z9hG4bKm\r\nf:<sip:a@h>;tag=1\r\nt:sip:b@h\r\ni:m\r\nCSeq:1 OPTIONS\r\n\r\n",
+        115,
+    );
+    reads(
+        &rt,
+        b"OPTIONS sip:b@h sip/2.0\r\nv:SIP/2.0/UDP h;branch=z9hG4bKm\r\nf:<sip:a@h>;tag=1\r\nt:sip:b@h\r\ni:m\r\nCSeq:1 OPTIONS\r\n\r\n",
+        111,
+    );
+    reads(
+        &rt,
+        b"OPTIONS sip:b@h SIP/2.0\r\nv:SIP/2.0/UDP h;branch=z9hG4bKm\r\nf:<sip:a@h>;tag=1\r\nt:sip:b@h\r\ni:m\r\nCSeq:1 OPTIONS\r\n\r\nabcd",
+        115,
+    );
+    reads(
+        &rt,
+        b"OPTIONS sip:b@h SIP/2.0\r\nv:SIP/2.0/UDP h;branch=z9hG4bKm\r\nf:<sip:a@h>;tag=1\r\nt:sip:b@h\r\ni:m\r\nCSeq:1 OPTIONS\r\nl:4\r\n\r\nabcd",
+        120,
+    );
+    reads(
+        &rt,
+        b"OPTIONS sip:b@h SIP/2.0\r\nv:SIP/2.0/UDP h;branch=z9hG4bKm\r\nf:<sip:a@h>;tag=1\r\nt:sip:b@h\r\ni:m\r\nCSeq:1 OPTIONS\r\nl: 3 \r\n\r\nabcd",
+        121,
+    );
+    reads(
+        &rt,
+        b"OPTIONS sip:b@h SIP/2.0\r\nv:SIP/2.0/UDP h;branch=z9hG4bKm\r\nf:<sip:a@h>;tag=1\r\nt:sip:b@h\r\ni:m\r\nCSeq:1 OPTIONS\r\nContent-Length:0\r\n\r\nabcd",
+        129,
+    );
+    reads(
+        &rt,
+        b"OPTIONS sip:b@h SIP/2.0\r\nv:SIP/2.0/UDP h;branch=z9hG4bKm\r\nf:<sip:a@h>;tag=1\r\nt:sip:b@h\r\ni:m\r\nCSeq:1 OPTIONS\r\nMax-Forwards:255\r\n\r\n",
+        129,
+    );
+    reads(
+        &rt,
+        b"OPTIONS sip:b@h SIP/2.0\r\nv:SIP/2.0/UDP h;branch=z9hG4bKm\r\nf:<sip:a@h>;tag=1\r\nt:sip:b@h\r\ni:m\r\nCSeq:1 OPTIONS\r\nRoute: <sip:p;lr>, <sip:q>\r\nRoute:<sip:r>\r\n\r\n",
+        154,
+    );
+    reads(
+        &rt,
+        b"OPTIONS sip:b@h SIP/2.0\r\nv:SIP/2.0/UDP h;branch=z9hG4bKm\r\nf:<sip:a@h>;tag=1\r\nt:sip:b@h\r\ni:m\r\nCSeq:1 OPTIONS\r\nVia: SIP/2.0/UDP g\r\n\r\n",
+        131,
+    );
+    reads(
+        &rt,
+        b"OPTIONS sip:b@h SIP/2.0\r\nv:SIP/2.0/UDP h;branch=z9hG4bKm\r\nf:<sip:a@h>;tag=1\r\nt:sip:b@h\r\ni:m\r\nCSeq:1 OPTIONS\r\nContact:\r\nX: ,\r\n\r\n",
+        127,
+    );
+}
+
+#[test]
+fn status_lines(rt: HostRuntime) {
+    status(
+        &rt,
+        b"SIP/2.0 100 Trying\r\nv:SIP/2.0/UDP h;branch=z9hG4bKm\r\nf:<sip:a@h>;tag=1\r\nt:sip:b@h\r\ni:m\r\nCSeq:1 INVITE\r\n\r\n",
+        100,
+        b"Trying",
+    );
+    status(
+        &rt,
+        b"SIP/2.0 699 a b \r\nv:SIP/2.0/UDP h;branch=z9hG4bKm\r\nf:<sip:a@h>;tag=1\r\nt:sip:b@h\r\ni:m\r\nCSeq:1 INVITE\r\n\r\n",
+        699,
+        b"a b ",
+    );
+    status(
+        &rt,
+        b"SIP/2.0 200\r\nv:SIP/2.0/UDP h;branch=z9hG4bKm\r\nf:<sip:a@h>;tag=1\r\nt:sip:b@h\r\ni:m\r\nCSeq:1 INVITE\r\n\r\n",
+        200,
+        b"",
+    );
+    status(
+        &rt,
+        b"SIP/2.0 200 \r\nv:SIP/2.0/UDP h;branch=z9hG4bKm\r\nf:<sip:a@h>;tag=1\r\nt:sip:b@h\r\ni:m\r\nCSeq:1 INVITE\r\n\r\n",
+        200,
+        b"",
+    );
+    status(
+        &rt,
+        b"sip/2.0 200 OK\r\nv:SIP/2.0/UDP h;branch=z9hG4bKm\r\nf:<sip:a@h>;tag=1\r\nt:sip:b@h\r\ni:m\r\nCSeq:1 INVITE\r\n\r\n",
+        200,
+        b"OK",
+    );
+    reads(
+        &rt,
+        b"SIP/2.0 200 OK\r\nv:SIP/2.0/UDP h\r\nf:<sip:a@h>;tag=1\r\nt:sip:b@h\r\ni:m\r\nCSeq:1 OPTIONS\r\n\r\n",
+        86,
+    );
+    refuses(
+        &rt,
+        b"SIP/2.0 99 x\r\nv:SIP/2.0/UDP h;branch=z9hG4bKm\r\nf:<sip:a@h>;tag=1\r\nt:sip:b@h\r\ni:m\r\nCSeq:1 INVITE\r\n\r\n",
+        MsgFault::BadStartLine,
+    );
+    refuses(
+        &rt,
+        b"SIP/2.0 099 x\r\nv:SIP/2.0/UDP h;branch=z9hG4bKm\r\nf:<sip:a@h>;tag=1\r\nt:sip:b@h\r\ni:m\r\nCSeq:1 INVITE\r\n\r\n",
+        MsgFault::BadStartLine,
+    );
+    refuses(
+        &rt,
+        b"SIP/2.0 700 x\r\nv:SIP/2.0/UDP h;branch=z9hG4bKm\r\nf:<sip:a@h>;tag=1\r\nt:sip:b@h\r\ni:m\r\nCSeq:1 INVITE\r\n\r\n",
+        MsgFault::BadStartLine,
+    );
+    refuses(
+        &rt,
+        b"SIP/2.0 0200 x\r\nv:SIP/2.0/UDP h;branch=z9hG4bKm\r\nf:<sip:a@h>;tag=1\r\nt:sip:b@h\r\ni:m\r\nCSeq:1 INVITE\r\n\r\n",
+        MsgFault::BadStartLine,
+    );
+    refuses(
+        &rt,
+        b"SIP/2.0  200 x\r\nv:SIP/2.0/UDP h;branch=z9hG4bKm\r\nf:<sip:a@h>;tag=1\r\nt:sip:b@h\r\ni:m\r\nCSeq:1 INVITE\r\n\r\n",
+        MsgFault::BadStartLine,
+    );
+    refuses(
+        &rt,
+        b"SIP/2.0 200OK\r\nv:SIP/2.0/UDP h;branch=z9hG4bKm\r\nf:<sip:a@h>;tag=1\r\nt:sip:b@h\r\ni:m\r\nCSeq:1 INVITE\r\n\r\n",
+        MsgFault::BadStartLine,
+    );
+    refuses(
+        &rt,
+        b"SIP/2.1 200 OK\r\nv:SIP/2.0/UDP h;branch=z9hG4bKm\r\nf:<sip:a@h>;tag=1\r\nt:sip:b@h\r\ni:m\r\nCSeq:1 INVITE\r\n\r\n",
+        MsgFault::BadStartLine,
+    );
+}
+
+#[test]
+fn each_fault_alone(rt: HostRuntime) {
+    refuses(&rt, b"\r\n\r\n", MsgFault::NotSip);
+    refuses(&rt, b"GET / HTTP/1.1\r\n\r\n", MsgFault::NotSip);
+    refuses(&rt, b"OPTIONS sip:b@h SIP/2.0", MsgFault::NotSip);
+    refuses(
+        &rt,
+        b"OPTIONS  sip:b@h SIP/2.0\r\nv:SIP/2.0/UDP h;branch=z9hG4bKm\r\nf:<sip:a@h>;tag=1\r\nt:sip:b@h\r\ni:m\r\nCSeq:1 OPTIONS\r\n\r\n",
+        MsgFault::BadStartLine,
+    );
+    refuses(
+        &rt,
+        b"OPTIONS sip:b@h  SIP/2.0\r\nv:SIP/2.0/UDP h;branch=z9hG4bKm\r\nf:<sip:a@h>;tag=1\r\nt:sip:b@h\r\ni:m\r\nCSeq:1 OPTIONS\r\n\r\n",
+        MsgFault::BadStartLine,
+    );
+    refuses(
+        &rt,
+        b" OPTIONS sip:b@h SIP/2.0\r\nv:SIP/2.0/UDP h;branch=z9hG4bKm\r\nf:<sip:a@h>;tag=1\r\nt:sip:b@h\r\ni:m\r\nCSeq:1 OPTIONS\r\n\r\n",
+        MsgFault::BadStartLine,
+    );
+    refuses(
+        &rt,
+        b"OPTIONS sip:b @h SIP/2.0\r\nv:SIP/2.0/UDP h;branch=z9hG4bKm\r\nf:<sip:a@h>;tag=1\r\nt:sip:b@h\r\ni:m\r\nCSeq:1 OPTIONS\r\n\r\n",
+        MsgFault::BadStartLine,
+    );
+    refuses(
+        &rt,
+        b"OPTIONS sip:b@h SIP/3.0\r\nv:SIP/2.0/UDP h;branch=z9hG4bKm\r\nf:<sip:a@h>;tag=1\r\nt:sip:b@h\r\ni:m\r\nCSeq:1 OPTIONS\r\n\r\n",
+        MsgFault::BadStartLine,
+    );
+    refuses(
+        &rt,
+        b"OPTIONS SIP/2.0\r\nv:SIP/2.0/UDP h;branch=z9hG4bKm\r\nf:<sip:a@h>;tag=1\r\nt:sip:b@h\r\ni:m\r\nCSeq:1 OPTIONS\r\n\r\n",
+        MsgFault::BadStartLine,
+    );
+    refuses(
+        &rt,
+        b"OPTIONS sip:b@h SIP/2.0\r\nv:SIP/2.0/UDP h;branch=z9hG4bKm\r\nf:<sip:a@h>;tag=1\r\nt:sip:b@h\r\ni:m\r\nCSeq:1 OPTIONS\r\n",
+        MsgFault::BadHeader,
+    );
+    refuses(
+        &rt,
+        b"OPTIONS sip:b@h SIP/2.0\r\n v:SIP/2.0/UDP h;branch=z9hG4bKm\r\nf:<sip:a@h>;tag=1\r\nt:sip:b@h\r\ni:m\r\nCSeq:1 OPTIONS\r\n\r\n",
+        MsgFault::BadHeader,
+    );
+    refuses(
+        &rt,
+        b"OPTIONS sip:b@h SIP/2.0\r\nv:SIP/2.0/UDP h;branch=z9hG4bKm\r\nf:<sip:a@h>;tag=1\r\nt:sip:b@h\r\ni:m\r\nCSeq:1 OPTIONS\r\nX\r\n\r\n",
+        MsgFault::BadHeader,
+    );
+    refuses(
+        &rt,
+        b"OPTIONS sip:b@h SIP/2.0\r\nf:<sip:a@h>;tag=1\r\nt:sip:b@h\r\ni:m\r\nCSeq:1 OPTIONS\r\n\r\n",
+        MsgFault::Missing,
+    );
+    refuses(
+        &rt,
+        b"OPTIONS sip:b@h SIP/2.0\r\nv:SIP/2.0/UDP h;branch=z9hG4bKm\r\nt:sip:b@h\r\ni:m\r\nCSeq:1 OPTIONS\r\n\r\n",
+        MsgFault::Missing,
+    );
+    refuses(
+        &rt,
+        b"OPTIONS sip:b@h SIP/2.0\r\nv:SIP/2.0/UDP h;branch=z9hG4bKm\r\nf:<sip:a@h>;tag=1\r\ni:m\r\nCSeq:1 OPTIONS\r\n\r\n",
+        MsgFault::Missing,
+    );
+    refuses(
+        &rt,
+        b"OPTIONS sip:b@h SIP/2.0\r\nv:SIP/2.0/UDP h;branch=z9hG4bKm\r\nf:<sip:a@h>;tag=1\r\nt:sip:b@h\r\nCSeq:1 OPTIONS\r\n\r\n",
+        MsgFault::Missing,
+    );
+    refuses(
+        &rt,
+        b"OPTIONS sip:b@h SIP/2.0\r\nv:SIP/2.0/UDP h;branch=z9hG4bKm\r\nf:<sip:a@h>;tag=1\r\nt:sip:b@h\r\ni:m\r\n\r\n",
+        MsgFault::Missing,
+    );
+    refuses(
+        &rt,
+        b"OPTIONS sip:b@h SIP/2.0\r\nv:SIP/2.0/UDP h;branch=z9hG4bKm\r\nf:<sip:a@h>;tag=1\r\nt:sip:b@h\r\ni:m\r\nCSeq:1 OPTIONS\r\nf:<sip:a@h>;tag=1\r\n\r\n",
+        MsgFault::Repeated,
+    );
+    refuses(
+        &rt,
+        b"OPTIONS sip:b@h SIP/2.0\r\nv:SIP/2.0/UDP h;branch=z9hG4bKm\r\nf:<sip:a@h>;tag=1\r\nt:sip:b@h\r\ni:m\r\nCSeq:1 OPTIONS\r\nt:sip:b@h\r\n\r\n",
+        MsgFault::Repeated,
+    );
+    refuses(
+        &rt,
+        b"OPTIONS sip:b@h SIP/2.0\r\nv:SIP/2.0/UDP h;branch=z9hG4bKm\r\nf:<sip:a@h>;tag=1\r\nt:sip:b@h\r\ni:m\r\nCSeq:1 OPTIONS\r\ni:m\r\n\r\n",
+        MsgFault::Repeated,
+    );
+    refuses(
+        &rt,
+        b"OPTIONS sip:b@h SIP/2.0\r\nv:SIP/2.0/UDP h;branch=z9hG4bKm\r\nf:<sip:a@h>;tag=1\r\nt:sip:b@h\r\ni:m\r\nCSeq:1 OPTIONS\r\nCSeq:1 OPTIONS\r\n\r\n",
+        MsgFault::Repeated,
+    );
+    refuses(
+        &rt,
+        b"OPTIONS sip:b@h SIP/2.0\r\nv:SIP/2.0/UDP h;branch=z9hG4bKm\r\nf:<sip:a@h>;tag=1\r\nt:sip:b@h\r\ni:m\r\nCSeq:1 OPTIONS\r\nMax-Forwards:1\r\nMax-Forwards:1\r\n\r\n",
+        MsgFault::Repeated,
+    );
+    refuses(
+        &rt,
+        b"OPTIONS sip:b@h SIP/2.0\r\nv:SIP/2.0/UDP h;branch=z9hG4bKm\r\nf:<sip:a@h>;tag=1\r\nt:sip:b@h\r\ni:m\r\nCSeq:1 OPTIONS\r\nl:0\r\nl:0\r\n\r\n",
+        MsgFault::Repeated,
+    );
+    refuses(
+        &rt,
+        b"OPTIONS sip:b@h SIP/2.0\r\nv:SIP/2.0/UDP\r\nf:<sip:a@h>;tag=1\r\nt:sip:b@h\r\ni:m\r\nCSeq:1 OPTIONS\r\n\r\n",
+        MsgFault::BadField,
+    );
+    refuses(
+        &rt,
+        b"OPTIONS sip:b@h SIP/2.0\r\nv:SIP/2.0/UDP h;branch=z9hG4bKm\r\nf:<sip:a@h>;tag=1\r\nt:sip:b@h\r\ni:m\r\nCSeq:1 OPTIONS\r\nv:SIP/2.0/UDP\r\n\r\n",
+        MsgFault::BadField,
+    );
+    refuses(
+        &rt,
+        b"OPTIONS sip:b@h SIP/2.0\r\nv:SIP/2.0/UDP h;branch=z9hG4bKm,\r\nf:<sip:a@h>;tag=1\r\nt:sip:b@h\r\ni:m\r\nCSeq:1 OPTIONS\r\n\r\n",
+        MsgFault::BadField,
+    );
+    refuses(
+        &rt,
+        b"OPTIONS sip:b@h SIP/2.0\r\nv:SIP/2.0/UDP h;branch=z9hG4bKm\r\nf:<sip:a@h>,<sip:c@h>\r\nt:sip:b@h\r\ni:m\r\nCSeq:1 OPTIONS\r\n\r\n",
+        MsgFault::BadField,
+    );
+    refuses(
+        &rt,
+        b"OPTIONS sip:b@h SIP/2.0\r\nv:SIP/2.0/UDP h;branch=z9hG4bKm\r\nf:<sip\r\nt:sip:b@h\r\ni:m\r\nCSeq:1 OPTIONS\r\n\r\n",
+        MsgFault::BadField,
+    );
+    refuses(
+        &rt,
+        b"OPTIONS sip:b@h SIP/2.0\r\nv:SIP/2.0/UDP h;branch=z9hG4bKm\r\nf:<sip:a@h>;tag=1\r\nt:b\r\ni:m\r\nCSeq:1 OPTIONS\r\n\r\n",
+        MsgFault::BadField,
+    );
+    refuses(
+        &rt,
+        b"OPTIONS sip:b@h SIP/2.0\r\nv:SIP/2.0/UDP h;branch=z9hG4bKm\r\nf:<sip:a@h>;tag=1\r\nt:sip:b@h,sip:c@h\r\ni:m\r\nCSeq:1 OPTIONS\r\n\r\n",
+        MsgFault::BadField,
+    );
+    refuses(
+        &rt,
+        b"OPTIONS sip:b@h SIP/2.0\r\nv:SIP/2.0/UDP h;branch=z9hG4bKm\r\nf:<sip:a@h>;tag=1\r\nt:sip:b@h\r\ni:a b\r\nCSeq:1 OPTIONS\r\n\r\n",
+        MsgFault::BadField,
+    );
+    refuses(
+        &rt,
+        b"OPTIONS sip:b@h SIP/2.0\r\nv:SIP/2.0/UDP h;branch=z9hG4bKm\r\nf:<sip:a@h>;tag=1\r\nt:sip:b@h\r\ni: \r\nCSeq:1 OPTIONS\r\n\r\n",
+        MsgFault::BadField,
+    );
+    refuses(
+        &rt,
+        b"OPTIONS sip:b@h SIP/2.0\r\nv:SIP/2.0/UDP h;branch=z9hG4bKm\r\nf:<sip:a@h>;tag=1\r\nt:sip:b@h\r\ni:m\r\nCSeq:2147483648 OPTIONS\r\n\r\n",
+        MsgFault::BadField,
+    );
+    refuses(
+        &rt,
+        b"OPTIONS sip:b@h SIP/2.0\r\nv:SIP/2.0/UDP h;branch=z9hG4bKm\r\nf:<sip:a@h>;tag=1\r\nt:sip:b@h\r\ni:m\r\nCSeq:1 OPTIONS\r\nMax-Forwards:256\r\n\r\n",
+        MsgFault::BadField,
+    );
+    refuses(
+        &rt,
+        b"OPTIONS sip:b@h SIP/2.0\r\nv:SIP/2.0/UDP h;branch=z9hG4bKm\r\nf:<sip:a@h>;tag=1\r\nt:sip:b@h\r\ni:m\r\nCSeq:1 OPTIONS\r\nMax-Forwards:0070\r\n\r\n",
+        MsgFault::BadField,
+    );
+    refuses(
+        &rt,
+        b"OPTIONS sip:b@h SIP/2.0\r\nv:SIP/2.0/UDP h;branch=z9hG4bKm\r\nf:<sip:a@h>;tag=1\r\nt:sip:b@h\r\ni:m\r\nCSeq:1 OPTIONS\r\nMax-Forwards:\r\n\r\n",
+        MsgFault::BadField,
+    );
+    refuses(
+        &rt,
+        b"OPTIONS sip:b@h SIP/2.0\r\nv:SIP/2.0/UDP h;branch=z9hG4bKm\r\nf:<sip:a@h>;tag=1\r\nt:sip:b@h\r\ni:m\r\nCSeq:1 OPTIONS\r\nl:12345678901\r\n\r\n",
+        MsgFault::BadField,
+    );
+    refuses(
+        &rt,
+        b"OPTIONS sip:b@h SIP/2.0\r\nv:SIP/2.0/UDP h;branch=z9hG4bKm\r\nf:<sip:a@h>;tag=1\r\nt:sip:b@h\r\ni:m\r\nCSeq:1 OPTIONS\r\nl:-1\r\n\r\n",
+        MsgFault::BadField,
+    );
+    refuses(
+        &rt,
+        b"OPTIONS sip:b@h SIP/2.0\r\nv:SIP/2.0/UDP h;branch=z9hG4bKm\r\nf:<sip:a@h>;tag=1\r\nt:sip:b@h\r\ni:m\r\nCSeq:1 OPTIONS\r\nRoute:sip:p\r\n\r\n",
+        MsgFault::BadField,
+    );
+    refuses(
+        &rt,
+        b"OPTIONS sip:b@h SIP/2.0\r\nv:SIP/2.0/UDP h;branch=z9hG4bKm\r\nf:<sip:a@h>;tag=1\r\nt:sip:b@h\r\ni:m\r\nCSeq:1 OPTIONS\r\nRoute:<sip:p>,\r\n\r\n",
+        MsgFault::BadField,
+    );
+    refuses(
+        &rt,
+        b"OPTIONS sip:b@h SIP/2.0\r\nv:SIP/2.0/UDP h;branch=z9hG4bKm\r\nf:<sip:a@h>;tag=1\r\nt:sip:b@h\r\ni:m\r\nCSeq:1 OPTIONS\r\nRoute:<sip:p>\r\nRoute:<sip:p>,sip:q\r\n\r\n",
+        MsgFault::BadField,
+    );
+    refuses(
+        &rt,
+        b"OPTIONS sip:b@h SIP/2.0\r\nv:SIP/2.0/UDP h;branch=z9hG4bKm\r\nf:<sip:a@h>;tag=1\r\nt:sip:b@h\r\ni:m\r\nCSeq:1 BYE\r\n\r\n",
+        MsgFault::BadField,
+    );
+    refuses(
+        &rt,
+        b"OPTIONS sip:b@h SIP/2.0\r\nv:SIP/2.0/UDP h;branch=z9hG4bKm\r\nf:<sip:a@h>;tag=1\r\nt:sip:b@h\r\ni:m\r\nCSeq:1 options\r\n\r\n",
+        MsgFault::BadField,
+    );
+    refuses(
+        &rt,
+        b"OPTIONS sip:b@h SIP/2.0\r\nv:SIP/2.0/UDP h\r\nf:<sip:a@h>;tag=1\r\nt:sip:b@h\r\ni:m\r\nCSeq:1 OPTIONS\r\n\r\n",
+        MsgFault::BadField,
+    );
+    refuses(
+        &rt,
+        b"OPTIONS sip:b@h SIP/2.0\r\nv:SIP/2.0/UDP h;branch=Z9hG4bKm\r\nf:<sip:a@h>;tag=1\r\nt:sip:b@h\r\ni:m\r\nCSeq:1 OPTIONS\r\n\r\n",
+        MsgFault::BadField,
+    );
+    refuses(
+        &rt,
+        b"OPTIONS sip:b@h SIP/2.0\r\nv:SIP/2.0/UDP h;branch=\"z9hG4bKm\"\r\nf:<sip:a@h>;tag=1\r\nt:sip:b@h\r\ni:m\r\nCSeq:1 OPTIONS\r\n\r\n",
+        MsgFault::BadField,
+    );
+    refuses(
+        &rt,
+        b"OPTIONS sip:b@h SIP/2.0\r\nv:SIP/2.0/UDP h;branch=z9hG4bKm\r\nf:<sip:a@h>;tag=1\r\nt:sip:b@h\r\ni:m\r\nCSeq:1 OPTIONS\r\nl:1\r\n\r\n",
+        MsgFault::ShortBody,
+    );
+    refuses(
+        &rt,
+        b"OPTIONS sip:b@h SIP/2.0\r\nv:SIP/2.0/UDP h;branch=z9hG4bKm\r\nf:<sip:a@h>;tag=1\r\nt:sip:b@h\r\ni:m\r\nCSeq:1 OPTIONS\r\nl:5\r\n\r\nabcd",
+        MsgFault::ShortBody,
+    );
+}
+
+/// Of two faults that are neighbours the earlier one is told. Others are in `limits`.
+#[test]
+fn the_earlier_fault_wins(rt: HostRuntime) {
+    refuses(&rt, b"OPTIONS  sip:b@h HTTP/2.0\r\n\r\n", MsgFault::NotSip);
+    refuses(
+        &rt,
+        b"OPTIONS sip:b@h SIP/3.0\r\n bad",
+        MsgFault::BadStartLine,
+    );
+    refuses(
+        &rt,
+        b"OPTIONS sip:b@h SIP/2.0\r\nv:SIP/2.0/UDP h;branch=z9hG4bKm\r\nf:<sip:a@h>;tag=1\r\nf:<sip:a@h>;tag=1\r\nt:sip:b@h\r\ni:m\r\n\r\n",
+        MsgFault::Missing,
+    );
+    refuses(
+        &rt,
+        b"OPTIONS sip:b@h SIP/2.0\r\nv:SIP/2.0/UDP h;branch=z9hG4bKm\r\nf:<sip:a@h>;tag=1\r\nt:sip:b@h\r\ni:m\r\nCSeq:1 OPTIONS\r\nCSeq:x\r\n\r\n",
+        MsgFault::Repeated,
+    );
+    refuses(
+        &rt,
+        b"OPTIONS sip:b@h SIP/2.0\r\nv:SIP/2.0/UDP h;branch=z9hG4bKm\r\nf:<sip:a@h>;tag=1\r\nt:sip:b@h\r\ni:m\r\nCSeq:1 BYE\r\nl:5\r\n\r\n",
+        MsgFault::BadField,
+    );
+}
+
+/// The fault of this many fields `A:` behind a request line, and then `last`.
+fn fault_of(count: usize, last: &[u8]) -> Option<MsgFault>
+    requires few { count ≤ 130 }
+    requires short { length last.now ≤ 128 }
+{
+    let mut text = [b'\n'; 800];
+    text[..25].copy_from_slice(b"OPTIONS sip:b@h SIP/2.0\r\n");
+    for field in 0..count {
+        text[25 + 4 * field..29 + 4 * field].copy_from_slice(b"A:\r\n");
+    }
+    let end = 25 + 4 * count;
+    text[end..end + last.len()].copy_from_slice(last);
+    Message::read(&text[..end + last.len()]).err()
+}
+
+/// 128 fields are read, 129 are too many; a bad field goes before, and an absent one behind.
+#[test]
+fn limits(rt: HostRuntime) {
+    let fields =
+        b"v:SIP/2.0/UDP h;branch=z9hG4bKm\r\nf:<sip:a@h>;tag=1\r\nt:sip:b@h\r\ni:m\r\nCSeq:1 OPTIONS\r\n\r\n";
+    assert!(rt; fault_of(123, fields) == None);
+    assert!(rt; fault_of(124, fields) == Some(MsgFault::TooManyHeaders));
+    assert!(rt; fault_of(129, b"A\r\n\r\n") == Some(MsgFault::BadHeader));
+    assert!(rt; fault_of(129, b"\r\n") == Some(MsgFault::TooManyHeaders));
+    let text = [0u8; 8193];
+    assert!(rt; Message::read(&text).err() == Some(MsgFault::TooLong));
+    assert!(rt; Message::read(&text[..8192]).err() == Some(MsgFault::NotSip));
+}
+
+#[test]
+fn bases(rt: HostRuntime) {
+    has_basis(
+        &rt,
+        b"OPTIONS sip:b@h SIP/2.0\r\nv:SIP/2.0/UDP h;branch=z9hG4bKm\r\nf:<sip:a@h>;tag=1\r\nt:sip:b@h\r\ni:m\r\nCSeq:1 OPTIONS\r\n\r\n",
+        true,
+    );
+    has_basis(
+        &rt,
+        b"OPTIONS sip:b@h SIP/2.0\r\nv:SIP/2.0/UDP h;branch=z9hG4bKm\r\n\r\n",
+        true,
+    );
+    has_basis(
+        &rt,
+        b"OPTIONS  sip:b@h SIP/2.0\r\nv:SIP/2.0/UDP h;branch=z9hG4bKm\r\n\r\n",
+        true,
+    );
+    has_basis(
+        &rt,
+        b"OPTIONS sip:b@h  SIP/2.0\r\nv:SIP/2.0/UDP h;branch=z9hG4bKm\r\n\r\n",
+        true,
+    );
+    has_basis(
+        &rt,
+        b"OPTIONS sip:b @h sip/2.0\r\nv:SIP/2.0/UDP h;branch=z9hG4bKm\r\n\r\n",
+        true,
+    );
+    has_basis(
+        &rt,
+        b"ack sip:b@h SIP/2.0\r\nv:SIP/2.0/UDP h;branch=z9hG4bKm\r\n\r\n",
+        true,
+    );
+    has_basis(
+        &rt,
+        b"OPTIONS sip:b@h SIP/3.0\r\nv:SIP/2.0/UDP h;branch=z9hG4bKm\r\n\r\n",
+        false,
+    );
+    has_basis(
+        &rt,
+        b"OPTIONS sip:b@h SIP/02.0\r\nv:SIP/2.0/UDP h;branch=z9hG4bKm\r\n\r\n",
+        false,
+    );
+    has_no_basis(
+        &rt,
+        b"OPTIONS sip:b@h SIP/2\r\nv:SIP/2.0/UDP h;branch=z9hG4bKm\r\n\r\n",
+    );
+    has_no_basis(
+        &rt,
+        b"OPTIONS SIP/2.0\r\nv:SIP/2.0/UDP h;branch=z9hG4bKm\r\n\r\n",
+    );
+    has_no_basis(
+        &rt,
+        b"OPTIONS  SIP/2.0\r\nv:SIP/2.0/UDP h;branch=z9hG4bKm\r\n\r\n",
+    );
+    has_no_basis(
+        &rt,
+        b" OPTIONS sip:b@h SIP/2.0\r\nv:SIP/2.0/UDP h;branch=z9hG4bKm\r\n\r\n",
+    );
+    has_no_basis(
+        &rt,
+        b"ACK sip:b@h SIP/2.0\r\nv:SIP/2.0/UDP h;branch=z9hG4bKm\r\n\r\n",
+    );
+    has_no_basis(
+        &rt,
+        b"SIP/2.0 200 OK\r\nv:SIP/2.0/UDP h;branch=z9hG4bKm\r\n\r\n",
+    );
+    has_no_basis(
+        &rt,
+        b"OPTIONS sip:b@h SIP/2.0\r\nv:SIP/2.0/UDP h;branch=z9hG4bKm\r\n",
+    );
+    has_no_basis(
+        &rt,
+        b"OPTIONS sip:b@h SIP/2.0\r\nX\r\nv:SIP/2.0/UDP h;branch=z9hG4bKm\r\n\r\n",
+    );
+    has_no_basis(&rt, b"OPTIONS sip:b@h SIP/2.0\r\nf:<sip:a@h>;tag=1\r\n\r\n");
+    has_no_basis(
+        &rt,
+        b"OPTIONS sip:b@h SIP/2.0\r\nv:SIP/2.0/UDP\r\nv:SIP/2.0/UDP h;branch=z9hG4bKm\r\n\r\n",
+    );
+    has_basis(
+        &rt,
+        b"OPTIONS sip:b@h SIP/2.0\r\nv:SIP/2.0/UDP h;branch=z9hG4bKm\r\nf:<sip:a@h>;tag=1\r\nt:sip:b@h\r\ni:m\r\nCSeq:1 OPTIONS\r\nl:9\r\n\r\n",
+        true,
+    );
+    let mut text = [b'x'; 8193];
+    text[..60].copy_from_slice(
+        b"OPTIONS sip:b@h SIP/2.0\r\nv:SIP/2.0/UDP h;branch=z9hG4bKm\r\n\r\n",
+    );
+    match read_basis(&text) {
+        Some(basis) => {
+            assert!(rt; basis.too_long);
+            assert!(rt; basis.version_ok);
+        }
+        None => assert!(rt; false),
+    }
+}
