@@ -1,6 +1,6 @@
 -- A word of digits that begins as a number does is what `decimal` writes of its value.
-use Rattle.std.proofs.Common.{◌≡◌, ◌≢◌, ℕ, zero, suc, ◌^◌, ◌<◌, List, [], ◌∷◌, Bool, true, false, ◌||◌, length, get_or, refl, sym, ap, ◌∙◌, subst, inl, inr, arith, Ok, Err}
-use Rattle.std.specs.Prelude.{Result, codes, nat_lt, slice_index, IfSome, IfNone}
+use Rattle.std.proofs.Common.{◌≡◌, ◌≢◌, ℕ, zero, suc, ◌^◌, ◌<◌, List, Bool, true, false, length, get_or, refl, sym, ap, ◌∙◌, arith, Ok, Err}
+use Rattle.std.specs.Prelude.{Result, codes, IfSome, IfNone}
 use Rattle.std.specs.Result.{result_ok}
 use Rattle.std.specs.Fmt.{decimal}
 use Rattle.std.specs.Str.{bytes_eq, IsUtf8}

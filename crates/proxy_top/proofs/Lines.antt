@@ -1,7 +1,6 @@
 -- The lines of a scenario by themselves: what their parts are, and that at most one line is written by the same bytes.
-use Rattle.std.proofs.Common.{◌≡◌, ◌≢◌, ℕ, ◌+◌, ◌^◌, ◌<◌, ◌≤◌, Bool, true, false, Bor, eqb, List, [], ◌∷◌, ◌++◌, length, get_or, take, drop, refl, sym, ap, ◌∙◌, subst, arith, Decides, inl, inr}
+use Rattle.std.proofs.Common.{◌≡◌, ◌≢◌, ℕ, ◌+◌, ◌≤◌, true, false, Bor, eqb, List, ◌∷◌, ◌++◌, length, get_or, take, drop, sym, ap, ◌∙◌, arith, inl, inr}
 use Rattle.std.specs.Prelude.{codes, Option, Some, None, IfNone}
-use Rattle.std.specs.Fmt.{decimal}
 use Rattle.std.specs.Cmp.Lexicographic.{pointwise}
 use Rattle.std.proofs.lemmas.Fmt.{decimal_injective}
 use Rattle.std.proofs.lemmas.Slice.Eq.{strip_prefix_is}
@@ -9,7 +8,7 @@ use Rattle.std.proofs.lemmas.Bool.Decides.{Decides-eqb}
 use Rattle.outside_ports.specs.declared.port.Addr.{Addr}
 use Rattle.proxy_top.specs.declared.scenario.Line.{Line}
 use Rattle.proxy_top.specs.declared.scenario.Line.TheVariants.{In, Text, End, Skipped}
-use Rattle.proxy_top.specs.Numerals.{IsNumber, IsSocket, dotted, socket}
+use Rattle.proxy_top.specs.Numerals.{IsNumber, IsSocket}
 use Rattle.proxy_top.specs.Splits.{SplitsAt, Lacks}
 use Rattle.proxy_top.specs.Scenario.{State, IsLine, Takes}
 use Rattle.proxy_top.proofs.Addresses.{decimal_lacks, only_split, not_split, split_one_way, same_socket}

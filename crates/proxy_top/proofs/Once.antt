@@ -1,11 +1,11 @@
 -- A text is one scenario at most, has one first wrong line at most, and never both.
-use Rattle.std.proofs.Common.{◌≡◌, ℕ, ◌+◌, List, [], ◌∷◌, ◌++◌, length, refl, sym, ap, ◌∙◌, subst, arith, append_assoc, append-nil}
-use Rattle.std.specs.Prelude.{Option, Some, None}
+use Rattle.std.proofs.Common.{◌≡◌, ℕ, List, [], ◌∷◌, ◌++◌, length, refl, sym, ap, ◌∙◌, subst, arith, append_assoc, append-nil}
+use Rattle.std.specs.Prelude.{Some, None}
 use Rattle.outside_ports.specs.declared.mem_port.Arrival.{Arrival}
 use Rattle.proxy_top.specs.declared.scenario.Line.{Line}
 use Rattle.proxy_top.specs.declared.scenario.Line.TheVariants.{In, Text, End, Skipped}
 use Rattle.proxy_top.specs.Splits.{Lacks}
-use Rattle.proxy_top.specs.Scenario.{State, IsLine, Takes, Fits, Reads, text_of, nothing_read, IsScenario, NothingFits, IsFirstWrong}
+use Rattle.proxy_top.specs.Scenario.{State, Takes, Fits, Reads, text_of, nothing_read, IsScenario, NothingFits, IsFirstWrong}
 use Rattle.proxy_top.proofs.Addresses.{split_one_way}
 use Rattle.proxy_top.proofs.Lines.{takes_alike}
 

@@ -1,12 +1,12 @@
 -- The lines of a scenario that were read so far, and what stands behind them.
 use Rattle.std.proofs.Common.{◌≡◌, ◌≢◌, ℕ, ◌+◌, List, [], ◌∷◌, ◌++◌, length, refl, sym, ap, ◌∙◌, subst, arith, append_assoc, append-nil, length-append}
-use Rattle.std.specs.Prelude.{Option, Some, None, IsSome}
+use Rattle.std.specs.Prelude.{Some, None}
 use Rattle.std.proofs.lemmas.List.Elements.{All-nil}
 use Rattle.proxy_top.specs.declared.scenario.Line.{Line}
 use Rattle.proxy_top.specs.declared.scenario.Draft.{Draft}
 use Rattle.proxy_top.specs.Splits.{SplitsAt, Lacks}
 use Rattle.proxy_top.specs.Scenario.{State, IsLine, Takes, Fits, Reads, text_of, nothing_read, IsScenario, NothingFits, IsFirstWrong}
-use Rattle.proxy_top.specs.Draft.{IsDraft, shown, pending_arrival}
+use Rattle.proxy_top.specs.Draft.{IsDraft, shown}
 use Rattle.proxy_top.proofs.Addresses.{only_split, not_split}
 use Rattle.proxy_top.proofs.Lines.{takes_alike}
 

@@ -1,5 +1,5 @@
 -- What a draft of a scenario stands for.
-use Rattle.std.specs.Prelude.{◌≡◌, ℕ, ◌≤◌, List, [], ◌∷◌, ◌++◌, Option, None, Some, IfSome, IsSome, length}
+use Rattle.std.specs.Prelude.{◌≡◌, List, [], ◌∷◌, ◌++◌, Option, None, Some, IsSome}
 use Rattle.outside_ports.specs.declared.mem_port.Arrival.{Arrival}
 use Rattle.proxy_top.specs.declared.scenario.Pending.{Pending}
 use Rattle.proxy_top.specs.declared.scenario.Draft.{Draft}

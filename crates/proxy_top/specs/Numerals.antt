@@ -1,5 +1,5 @@
 -- Numbers and addresses as scenarios and traces write them: decimal, without a sign or a leading zero.
-use Rattle.std.specs.Prelude.{◌≡◌, ℕ, ◌+◌, ◌*◌, ◌/◌, ◌%◌, ◌^◌, ◌<◌, Bool, ◌||◌, nat_lt, List, ◌∷◌, ◌++◌, codes, slice_index}
+use Rattle.std.specs.Prelude.{◌≡◌, ℕ, ◌/◌, ◌%◌, ◌^◌, ◌<◌, Bool, ◌||◌, nat_lt, List, ◌∷◌, ◌++◌, codes, slice_index}
 use Rattle.std.specs.Str.{bytes_eq}
 use Rattle.std.specs.Fmt.{decimal}
 use Rattle.outside_ports.specs.declared.port.Addr.{Addr}

@@ -1,6 +1,5 @@
 -- A scenario: the form of each line by itself, and what a line adds to what was read before it.
-use Rattle.std.specs.Prelude.{◌≡◌, ◌≢◌, ℕ, ◌+◌, ◌^◌, ◌<◌, ◌≤◌, ◌⊎◌, List, [], ◌∷◌, ◌++◌, Option, None, Some, length, codes}
-use Rattle.outside_ports.specs.declared.port.Addr.{Addr}
+use Rattle.std.specs.Prelude.{◌≡◌, ℕ, ◌+◌, ◌≤◌, ◌⊎◌, List, [], ◌∷◌, ◌++◌, Option, None, Some, length, codes}
 use Rattle.outside_ports.specs.declared.mem_port.Arrival.{Arrival}
 use Rattle.proxy_top.specs.declared.scenario.Line.{Line}
 use Rattle.proxy_top.specs.declared.scenario.Line.TheVariants.{In, Text, End, Skipped}

@@ -1,6 +1,5 @@
 -- A word that std reads as an address is four numbers with dots.
 use Rattle.proxy_top.proofs.Addresses.{ip_found, ip_none}
-use Rattle.std.proofs.Common.{◌∙◌, sym}
 use Rattle.proxy_top.proofs.numbers.ip.Goals as goal
 
 pub returns-in-Ok-clause-found : goal.returns-in-Ok-clause-found

@@ -1,6 +1,5 @@
 -- A word that begins as a number is one exactly where it parses.
 use Rattle.std.proofs.Common.{sym}
-use Rattle.std.specs.Str.Parse.{ParsesUnsigned}
 use Rattle.proxy_top.proofs.Digits.{parsed_found, parsed_none, not_begun, not_utf8}
 use Rattle.proxy_top.proofs.numbers.number.Goals as goal
 

@@ -1,5 +1,5 @@
 use Rattle.std.specs.Prelude.{codes}
-use Rattle.std.proofs.Common.{◌++◌, ◌≡◌, ℕ}
+use Rattle.std.proofs.Common.{ℕ}
 use Rattle.proxy_top.specs.Scenario.{IsLine}
 use Rattle.proxy_top.specs.declared.scenario.Line.TheVariants.{End}
 use Rattle.proxy_top.proofs.Lines.{not_stripped}

@@ -1,5 +1,5 @@
 use Rattle.std.specs.Prelude.{codes}
-use Rattle.std.proofs.Common.{◌++◌, ◌∷◌, ◌≡◌, ℕ}
+use Rattle.std.proofs.Common.{◌++◌, ◌∷◌, ℕ}
 use Rattle.outside_ports.specs.declared.port.Addr.{Addr}
 use Rattle.proxy_top.specs.Scenario.{IsLine}
 use Rattle.proxy_top.specs.declared.scenario.Line.TheVariants.{In}

@@ -1,5 +1,5 @@
 -- The first byte of a line tells its kind.
-use Rattle.std.proofs.Common.{arith, rules}
+use Rattle.std.proofs.Common.{arith}
 use Rattle.proxy_top.proofs.Lines.{end_alone, in_alone}
 use Rattle.proxy_top.proofs.scenario.read_line.Goals as goal
 

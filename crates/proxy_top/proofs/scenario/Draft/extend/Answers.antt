@@ -1,5 +1,5 @@
 -- The pending datagram is the last one.
-use Rattle.std.proofs.Common.{◌≡◌, refl, sym, arith, ◌∙◌, Some, None}
+use Rattle.std.proofs.Common.{◌≡◌, refl, arith, ◌∙◌, Some, None}
 use Rattle.proxy_top.specs.Draft.{arrival_of}
 use Rattle.proxy_top.proofs.Drafts.{not_some}
 use Rattle.proxy_top.proofs.scenario.Draft.extend.Goals as goal
