@@ -1,33 +1,15 @@
 -- Where the folder is told, the words and the files leave one ending, besides that of a fault.
-use Rattle.std.proofs.Common.{◌≡◌, ℕ, ◌<◌, ◌≤◌, ◌⊎◌, inl, inr, List, [], ◌∷◌, Option, Some, length, refl, sym, ap, ◌∙◌, subst, arith}
+use Rattle.std.proofs.Common.{◌≡◌, ℕ, ◌<◌, inl, inr, List, Option, Some, length, sym, ap, ◌∙◌, subst, arith}
 use Rattle.std.specs.Prelude.{IfSome, IsSomeAnd}
-use Rattle.std.specs.String.{string_bytes}
 use Rattle.outside_ports.specs.Counts.{Rises}
 use Rattle.outside_ports.specs.Files.{Folder, Holds, IsLonger}
 use Rattle.proxy_top.specs.declared.script.AnswerAll.{AnswerAll}
 use Rattle.proxy_top.specs.declared.top.Ending.{Ending}
 use Rattle.proxy_top.specs.declared.top.Ending.TheVariants.{Done, Usage, Refused, WrongLine, Unread}
-use Rattle.proxy_top.specs.Commands.{sim_words, IsNoCommand}
+use Rattle.proxy_top.specs.Commands.{sim_words}
 use Rattle.proxy_top.specs.Script.{IsScript}
 use Rattle.proxy_top.specs.Scenario.{IsScenario, IsFirstWrong}
-use Rattle.proxy_top.specs.Endings.{
-  ReadsScript,
-  IsEnding,
-  IsDone,
-  IsRefused,
-  IsWrongLine,
-  IsUnread,
-  Fails,
-  RunsOut,
-  IsReported,
-  IsEnd,
-  Gives,
-  status_of,
-  Tells,
-  IsReady,
-  IsInNoForm,
-  IsInWrongLine,
-}
+use Rattle.proxy_top.specs.Endings.{ReadsScript, IsEnding, IsDone, IsRefused, IsWrongLine, IsEnd, Gives, status_of, Tells, IsReady, IsInNoForm, IsInWrongLine}
 use Rattle.proxy_top.proofs.Once.{scenario_not_wrong}
 
 same_words : (script scenario script' scenario' : List ℕ) → sim_words script scenario ≡ sim_words script' scenario'

@@ -1,7 +1,5 @@
 -- The run of a scenario, datagram by datagram.
-use Rattle.std.proofs.Common.{◌≡◌, ℕ, ◌≤◌, List, [], ◌∷◌, ◌++◌, length, refl, sym, ap, subst, ◌∙◌, append_assoc, append-nil, arith}
-use Rattle.std.specs.Prelude.{map}
-use Rattle.std.specs.List.{flat_map}
+use Rattle.std.proofs.Common.{◌≡◌, ℕ, ◌≤◌, List, [], ◌∷◌, ◌++◌, sym, ◌∙◌, append_assoc, append-nil, arith}
 use Rattle.outside_ports.specs.declared.mem_port.Arrival.{Arrival}
 use Rattle.outside_ports.specs.MemPort.{IsInOrder, PortState, next_moment}
 use Rattle.proxy_top.specs.declared.script.AnswerAll.{AnswerAll}

@@ -7,26 +7,7 @@ use Rattle.outside_ports.specs.Files.{Folder}
 use Rattle.proxy_top.specs.declared.top.Ending.{Ending}
 use Rattle.proxy_top.specs.declared.top.Ending.TheVariants.{Done, Usage, Refused, WrongLine, Unread}
 use Rattle.proxy_top.specs.Commands.{IsNoCommand}
-use Rattle.proxy_top.specs.Endings.{
-  IsEnding,
-  IsDone,
-  IsRefused,
-  IsWrongLine,
-  IsUnread,
-  Fails,
-  RunsOut,
-  IsReported,
-  IsEnd,
-  IsStatus,
-  Gives,
-  status_of,
-  text_of,
-  usage_line,
-  refused_line,
-  wrong_line,
-  unread_line,
-  memory_line,
-}
+use Rattle.proxy_top.specs.Endings.{IsEnding, IsDone, IsRefused, IsWrongLine, IsUnread, IsReported, IsEnd, IsStatus, Gives, status_of, text_of, usage_line, refused_line, wrong_line, unread_line, memory_line}
 
 -- below 5 the status is that of an ending
 reported : (words : List (List ℕ)) (folder : Option Folder) (f g : ℕ) (old new : Option (List ℕ)) (c d status : ℕ) → IsEnd words folder f g old new c d status → status < 5 → IsReported words folder f g old new status

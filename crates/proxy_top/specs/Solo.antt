@@ -1,5 +1,5 @@
 -- The solo run: one worker handles the datagrams of a scenario in order, each at the moment when it arrives.
-use Rattle.std.specs.Prelude.{◌≡◌, ℕ, List, ◌++◌, map, Option, None, Some}
+use Rattle.std.specs.Prelude.{ℕ, List, ◌++◌, map, Option, None, Some}
 use Rattle.std.specs.List.{flat_map}
 use Rattle.outside_ports.specs.declared.port.Addr.{Addr}
 use Rattle.outside_ports.specs.declared.mem_port.Arrival.{Arrival}

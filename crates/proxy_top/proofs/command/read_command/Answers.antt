@@ -1,7 +1,6 @@
 -- The three words.
-use Rattle.std.proofs.Common.{◌≡◌, ◌∷◌, [], sym, refl, ◌∙◌, ap, arith}
+use Rattle.std.proofs.Common.{sym, refl, ◌∙◌, ap, arith}
 use Rattle.std.specs.Prelude.{codes}
-use Rattle.std.specs.String.{string_bytes}
 use Rattle.std.proofs.lemmas.Slice.Eq.{bytes_eq-Decides}
 use Rattle.proxy_top.specs.Commands.{words_of}
 use Rattle.proxy_top.proofs.Three.{three}

@@ -1,5 +1,5 @@
 -- A form has its code and its reason at known places.
-use Rattle.std.proofs.Common.{◌≡◌, List, ℕ, sym, ◌∙◌, subst}
+use Rattle.std.proofs.Common.{◌≡◌, sym, ◌∙◌, subst}
 use Rattle.proxy_top.specs.Script.{IsReason}
 use Rattle.proxy_top.proofs.Scripts.{has_code, reason_once}
 use Rattle.proxy_top.proofs.script.read_form.Goals as goal

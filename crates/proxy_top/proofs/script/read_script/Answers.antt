@@ -1,6 +1,5 @@
 -- A text that ends with LF is a script exactly where the line before it is a form.
-use Rattle.std.proofs.Common.{inl, inr, subst, sym}
-use Rattle.proxy_top.specs.Script.{IsForm}
+use Rattle.std.proofs.Common.{inl, inr}
 use Rattle.proxy_top.proofs.Scripts.{no_line_end, line_once, if_none_by}
 use Rattle.proxy_top.proofs.script.read_script.Goals as goal
 

@@ -1,5 +1,5 @@
 -- Each turn that goes on handles one datagram more.
-use Rattle.std.proofs.Common.{◌≡◌, ℕ, ◌++◌, ◌∷◌, List, Bool, true, false, length, refl, ap, arith, ◌∙◌}
+use Rattle.std.proofs.Common.{◌++◌, true, false, length, refl, ap, arith, ◌∙◌}
 use Rattle.proxy_top.specs.Handled.{Turned}
 use Rattle.proxy_top.specs.Solo.{solo, entries_text}
 use Rattle.proxy_top.proofs.Run.{goes, ends}

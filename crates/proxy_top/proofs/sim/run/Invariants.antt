@@ -1,5 +1,5 @@
 -- What was printed so far and the entries of what is left are all that is printed.
-use Rattle.std.proofs.Common.{◌≡◌, ◌++◌, length}
+use Rattle.std.proofs.Common.{◌++◌, length}
 use Rattle.proxy_top.specs.Solo.{solo, entries_text}
 use Rattle.proxy_top.proofs.Run.{IsOnItsWay}
 use Rattle.proxy_top.proofs.sim.run.Given as goal

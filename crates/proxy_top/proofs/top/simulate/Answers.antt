@@ -1,6 +1,4 @@
 -- Where the folder is told, the words and the files leave one status.
-use Rattle.std.proofs.Common.{◌≡◌}
-use Rattle.proxy_top.specs.Commands.{words_of}
 use Rattle.proxy_top.proofs.Causes.{ready, wrong_line_only}
 use Rattle.proxy_top.proofs.top.simulate.Goals as goal
 
