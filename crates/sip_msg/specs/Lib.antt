@@ -6,3 +6,4 @@ pub mod Values
 pub mod Places
 pub mod Table
 pub mod Basis
+pub mod StartGrammar
