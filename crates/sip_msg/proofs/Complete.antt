@@ -14,7 +14,7 @@ use Rattle.sip_scan.specs.Head.{head_behind}
 use Rattle.sip_msg.specs.Fields.{count, is_missing, is_repeated}
 use Rattle.sip_msg.specs.Places.{IsComplete}
 
-neither : (a b : Bool) → (a or b) ≡ false → (a ≡ false) × (b ≡ false)
+pub neither : (a b : Bool) → (a or b) ≡ false → (a ≡ false) × (b ≡ false)
 neither true b h = absurd (cc)
 neither false b h = (refl, h)
 

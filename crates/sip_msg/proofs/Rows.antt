@@ -15,6 +15,7 @@ use Rattle.sip_msg.specs.declared.values.Values.{Values}
 use Rattle.sip_msg.specs.Start.{start_at, start_of}
 use Rattle.sip_msg.specs.Fields.{is_missing, is_repeated}
 use Rattle.sip_msg.specs.Start.{IsStartBetween}
+use Rattle.sip_msg.specs.StartGrammar.{IsStartAt}
 use Rattle.sip_msg.specs.Places.{PartsLie, LiesIn}
 use Rattle.sip_msg.specs.Values.{values_of}
 use Rattle.sip_scan.specs.Head as scan
@@ -154,3 +155,9 @@ message_lies b line start h (Ok m) is ok head_lies between head begun parts =
       start = subst (λ (x : Start). IsStartBetween m.head.start.from m.head.start.to x) (sym begun) (subst (λ (l : Span). IsStartBetween l.from l.to start) stands between);
       parts = parts;
     }
+
+pub start_spelled : (b : List ℕ) (line : Span) (start : Start) (h : Head) (r : Result Message MsgFault) → Begins b line start → scanned b ≡ Ok h → IsStartAt (take line.to b) line.from start → IfOk r (λ m. m.head ≡ h) → IfOk r (λ m. m.start ≡ start) → IfOk r (λ m. IsStartAt (take m.head.start.to b) m.head.start.from m.start)
+start_spelled b line start h (Err f) is ok spelled head begun = tt
+start_spelled b line start h (Ok m) is ok spelled head begun =
+    let stands : line ≡ m.head.start = start_stands b line h (sym (head_is b line is.line_is) ∙ is_head b line start h is ok) ∙ ap (λ (x : Head). x.start) (sym head) in
+    subst (λ (x : Start). IsStartAt (take m.head.start.to b) m.head.start.from x) (sym begun) (subst (λ (l : Span). IsStartAt (take l.to b) l.from start) stands spelled)

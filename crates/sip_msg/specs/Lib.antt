@@ -7,3 +7,4 @@ pub mod Places
 pub mod Table
 pub mod Basis
 pub mod PlainForm
+pub mod StartGrammar

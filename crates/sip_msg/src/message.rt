@@ -1,7 +1,8 @@
-ghost use Rattle.std.specs.Prelude.{◌≡◌, ◌≤◌, ◌-◌, All, IfErr, IfNone, IfOk, IfSome, None, Ok, Some, length, true, false};
+ghost use Rattle.std.specs.Prelude.{◌≡◌, ◌≤◌, ◌-◌, All, IfErr, IfNone, IfOk, IfSome, None, Ok, Some, length, take, true, false};
 ghost use Rattle.sip_scan.specs.Field.{IsField};
 ghost use Rattle.sip_msg.specs.Places.{PartsLie, LiesIn, IsComplete};
 ghost use Rattle.sip_msg.specs.Start.{IsStartBetween};
+ghost use Rattle.sip_msg.specs.StartGrammar.{IsStartAt};
 ghost use Rattle.sip_msg.specs.Table.{fault_of, first_row, later_rows, is_above, end_behind, HasParts, Reads};
 ghost use Rattle.sip_msg.specs.declared.message.Message.{Message};
 
@@ -117,6 +118,7 @@ fn message_behind(b: &[u8], start: Start, head: Head) -> Result<Message, MsgFaul
 fn message_of(b: &[u8]) -> Result<Message, MsgFault>
     ensures found { IfOk result (Reads b.now) }
     ensures fault { IfErr result (λ f. fault_of b.now ≡ Some f) }
+    ensures line { IfOk result (λ m. IsStartAt (take m.head.start.to b.now) m.head.start.from m.start) }
     ensures places { IfOk result (LiesIn b.now) }
     ensures complete { IfOk result (λ m. IsComplete m.head.fields.items) }
 {
@@ -147,6 +149,8 @@ impl Message {
         ensures only { (m : Message) → Reads b.now m → result ≡ Ok m }
         // A fault is the first one that holds.
         ensures fault { IfErr result (λ f. fault_of b.now ≡ Some f) }
+        // Its start line is spelled by the grammar, each span being the place of its part.
+        ensures line { IfOk result (λ m. IsStartAt (take m.head.start.to b.now) m.head.start.from m.start) }
         // Each span lies in the value of its field, and the message ends behind its head and within the datagram.
         ensures places { IfOk result (LiesIn b.now) }
         // There is a Via, and From, To, Call-ID and CSeq stand once.

@@ -1,5 +1,6 @@
 ghost use Rattle.std.specs.Prelude.{◌≡◌, ◌≤◌, length, take, IfSome};
 ghost use Rattle.sip_words.specs.Spans.{IsWithin};
+ghost use Rattle.sip_msg.specs.StartGrammar.{IsStartAt};
 ghost use Rattle.sip_msg.specs.Start.{behind_space, request_at, reason_at, status_at, start_at, IsStartBetween};
 
 use crate::Span;
@@ -98,6 +99,7 @@ fn status_at(text: &[u8], from: usize) -> Option<Start>
 pub fn start_at(b: &[u8], line: Span) -> Option<Start>
     requires { IsWithin b.now line }
     ensures value { result ≡ start_at (take line.to b.now) line.from }
+    ensures found { IfSome result (IsStartAt (take line.to b.now) line.from) }
     ensures between { IfSome result (IsStartBetween line.from line.to) }
 {
     let text = &b[..line.to];

@@ -1,6 +1,6 @@
 use Rattle.std.proofs.Common.{sym, ◌∙◌, ap, Err}
 use Rattle.sip_scan.specs.declared.ScanFault.{ScanFault}
-use Rattle.sip_msg.proofs.Rows.{begins, bad_header, too_many, never_not_sip, message_found, fault_found, message_lies}
+use Rattle.sip_msg.proofs.Rows.{begins, bad_header, too_many, never_not_sip, message_found, fault_found, message_lies, start_spelled}
 use Rattle.sip_msg.proofs.message.message_of.Goals as goal
 
 pub returns-in-Ok-clause-found : goal.returns-in-Ok-clause-found
@@ -40,3 +40,10 @@ returns-in-Ok-clause-places c =
     let is = begins b c.in-Some.line c.in-Some-start_at.start c.if-b-gt-LONGEST.false (sym c.in-Some.ensures.value) (sym c.in-Some-start_at.ensures.value) in
     let e = c.message_behind.ensures in
     message_lies b c.in-Some.line c.in-Some-start_at.start c.in-Ok.head c.message_behind.result is (sym c.in-Ok.ensures.exact) c.in-Ok.ensures.places c.in-Some-start_at.ensures.between e.head e.start e.lie
+
+pub returns-in-Ok-clause-line : goal.returns-in-Ok-clause-line
+returns-in-Ok-clause-line c =
+    let b = c.args.b.now in
+    let is = begins b c.in-Some.line c.in-Some-start_at.start c.if-b-gt-LONGEST.false (sym c.in-Some.ensures.value) (sym c.in-Some-start_at.ensures.value) in
+    let e = c.message_behind.ensures in
+    start_spelled b c.in-Some.line c.in-Some-start_at.start c.in-Ok.head c.message_behind.result is (sym c.in-Ok.ensures.exact) c.in-Some-start_at.ensures.found e.head e.start
