@@ -4,3 +4,6 @@
 pub mod numbers;
 
 pub use numbers::{address, number, push_address, push_ip, push_number, split_once};
+
+#[cfg(test)]
+mod tests;

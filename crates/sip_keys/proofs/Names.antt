@@ -1,14 +1,19 @@
 -- A text names one branch at most.
-use Rattle.std.proofs.Common.{◌≡◌, ◌≢◌, ℕ, ◌/◌, ◌%◌, ◌^◌, ◌<◌, ◌≤◌, List, [], ◌∷◌, ◌++◌, slice_index, refl, sym, ap, ◌∙◌, arith, Some}
-use Rattle.std.specs.Prelude.{Option, None, IfSome, IfNone, codes, All}
+use Rattle.std.proofs.Common.{◌≡◌, ◌≢◌, ℕ, ◌/◌, ◌%◌, ◌^◌, ◌<◌, ◌≤◌, List, [], ◌∷◌, ◌++◌, slice_index, inl, inr, refl, sym, ap, ◌∙◌, arith, Some}
+use Rattle.std.specs.Prelude.{Option, None, Ok, IfSome, IfNone, codes, true, nat_lt, length}
 use Rattle.std.specs.Fmt.{decimal}
-use Rattle.std.specs.Int.{w32, to_be_bytes}
+use Rattle.std.specs.Int.{w32, to_be_bytes, from_be_bytes}
+use Rattle.std.proofs.lemmas.Nat.{from_be_bytes-to_be_bytes_4}
+use Rattle.hex.proofs.HexLemmas.{decode_of-encode_lower}
 use Rattle.std.proofs.lemmas.Fmt.{decimal_injective}
-use Rattle.std.proofs.lemmas.List.{append_cancel_left}
-use Rattle.hex.specs.Hex.{encode_with, lower_digits}
+use Rattle.std.proofs.lemmas.List.{append_cancel_left, get_or_past}
+use Rattle.std.proofs.lemmas.List.Elements.{All-nil, All-cons, All-append, All-get_or}
+use Rattle.std.proofs.lemmas.Bool.{and_parts, cases_lt, ltb-true}
+use Rattle.std.specs.List.{list_all}
+use Rattle.hex.specs.Hex.{encode_with, encode_lower, decode_of, lower_digits}
+use Rattle.sip_keys.proofs.Bytes.{be_bytes}
 use Rattle.numerals.specs.Splits.{SplitsAt, Lacks}
-use Rattle.numerals.specs.Numerals.{IsNumber}
-use Rattle.numerals.proofs.Addresses.{only_split, not_split, split_one_way, decimal_lacks, where_none}
+use Rattle.numerals.proofs.Addresses.{only_split, not_split, split_one_way, decimal_lacks}
 use Rattle.sip_keys.specs.declared.branch.Branch.{Branch}
 use Rattle.sip_keys.specs.Branches.{branch_text, numbers_text, front_text, IsBranch}
 
@@ -68,8 +73,22 @@ digits_lack t (x ∷ xs) h =
     All-cons (λ b. b ≢ 46) (slice_index t (x / 16)) (slice_index t (x % 16) ∷ encode_with t xs) (h (x / 16))
     (All-cons (λ b. b ≢ 46) (slice_index t (x % 16)) (encode_with t xs) (h (x % 16)) (digits_lack t xs h))
 
+all_lack : (t : List ℕ) → Lacks 46 t → (d : ℕ) → slice_index t d ≢ 46
+all_lack t h d = elim (cases_lt d (length t)) [
+  | inl below ↦ All-get_or (λ b. b ≢ 46) t d 0 below h
+  | inr past ↦ λ e. let nought = get_or_past t d 0 past in absurd (omega (arith, nought, e))
+]
+
+no_dots : (t : List ℕ) → list_all (λ b. nat_lt 46 b) t ≡ true → Lacks 46 t
+no_dots [] h = All-nil (λ b. b ≢ 46)
+no_dots (x ∷ xs) h =
+    let parts = and_parts (nat_lt 46 x) (list_all (λ b. nat_lt 46 b) xs) h in
+    let above = ltb-true 46 x parts.0 in All-cons (λ b. b ≢ 46) x xs (λ e. absurd (omega (arith, above, e))) (no_dots xs parts.1)
+
 front_lacks : (epoch : ℕ) → Lacks 46 (front_text epoch)
-front_lacks epoch = ?
+front_lacks epoch =
+    All-append (λ b. b ≢ 46) (codes "z9hG4bKrs") (encode_with lower_digits (to_be_bytes w32 epoch)) (no_dots (codes "z9hG4bKrs") refl)
+    (digits_lack lower_digits (to_be_bytes w32 epoch) (all_lack lower_digits (no_dots lower_digits refl)))
 
 -- where a text is split at its first dot
 pub front_split : (epoch : ℕ) (text front numbers : List ℕ) (br : Branch) → SplitsAt 46 text front numbers → text ≡ branch_text epoch br
@@ -86,6 +105,16 @@ pub text_is : (epoch : ℕ) (text front numbers : List ℕ) (br : Branch) → Sp
 unfolding branch_text
 text_is epoch text front numbers br split e f = split.whole ∙ rw (e, f) refl
 
+pub named_found : (epoch : ℕ) (text front numbers : List ℕ) (r : Option Branch) → SplitsAt 46 text front numbers → front ≡ front_text epoch
+    → IfSome r (λ br. IsBranch br × (numbers ≡ numbers_text br)) → IfSome r (λ br. IsBranch br × (text ≡ branch_text epoch br))
+named_found epoch text front numbers None split e h = tt
+named_found epoch text front numbers (Some br) split e h = (h.0, text_is epoch text front numbers br split e h.1)
+
+pub named_none : (epoch : ℕ) (text front numbers : List ℕ) (r : Option Branch) → SplitsAt 46 text front numbers
+    → IfNone r ((br : Branch) → IsBranch br → numbers ≡ numbers_text br → ⊥) → IfNone r ((br : Branch) → IsBranch br → text ≡ branch_text epoch br → ⊥)
+named_none epoch text front numbers None split h = λ br is e. h br is (front_split epoch text front numbers br split e).1
+named_none epoch text front numbers (Some a) split h = tt
+
 -- the text of a branch is that of no other
 pub same_branch : (epoch : ℕ) (a b : Branch) → IsBranch a → IsBranch b → branch_text epoch a ≡ branch_text epoch b → a ≡ b
 unfolding branch_text
@@ -99,3 +128,18 @@ pub only_one : (epoch : ℕ) (text : List ℕ) (r : Option Branch) → IfSome r 
     → (br : Branch) → IsBranch br → text ≡ branch_text epoch br → r ≡ Some br
 only_one epoch text None found none br is e = absurd (none br is e)
 only_one epoch text (Some a) found none br is e = ap Some (same_branch epoch a br found.0 is (sym found.1 ∙ e))
+
+same_epoch : (epoch later : ℕ) → epoch < 2 ^ 32 → later < 2 ^ 32 → front_text epoch ≡ front_text later → epoch ≡ later
+same_epoch epoch later l l' e =
+    let hex = append_cancel_left (codes "z9hG4bKrs") (encode_lower (to_be_bytes w32 epoch)) (encode_lower (to_be_bytes w32 later)) e in
+    let decoded : Ok (to_be_bytes w32 epoch) ≡ Ok (to_be_bytes w32 later) =
+    sym (decode_of-encode_lower (to_be_bytes w32 epoch) (be_bytes epoch)) ∙ ap decode_of hex ∙ decode_of-encode_lower (to_be_bytes w32 later) (be_bytes later) in
+    let bytes : to_be_bytes w32 epoch ≡ to_be_bytes w32 later = cc in
+    sym (from_be_bytes-to_be_bytes_4 epoch l) ∙ ap (from_be_bytes w32) bytes ∙ from_be_bytes-to_be_bytes_4 later l'
+
+pub one_name : (epoch later : ℕ) (one other : Branch) → epoch < 2 ^ 32 → later < 2 ^ 32 → IsBranch one → IsBranch other
+    → branch_text epoch one ≡ branch_text later other → (epoch ≡ later) × (one ≡ other)
+unfolding branch_text
+one_name epoch later one other l l' is is' e =
+    let parts = split_one_way 46 (front_text epoch) (numbers_text one) (front_text later) (numbers_text other) e (front_lacks epoch) (front_lacks later) in
+    (same_epoch epoch later l l' parts.0, same_numbers one other is is' parts.1)

@@ -15,10 +15,10 @@ use Rattle.sip_msg.specs.declared.start.Start.TheVariants.{Request, Status}
 use Rattle.sip_msg.specs.Fields.{first}
 use Rattle.sip_msg.specs.Values.{via_of}
 use Rattle.sip_msg.specs.Start.{IsStartBetween}
-use Rattle.sip_msg.specs.Places.{LiesIn, InFirst}
+use Rattle.sip_msg.specs.Places.{InFirst}
 use Rattle.sip_msg.specs.Table.{Reads}
 use Rattle.sip_msg.proofs.Firsts.{found_is}
-use Rattle.sip_keys.proofs.Lies.{lies}
+use Rattle.sip_msg.proofs.Lies.{lies}
 
 wider : (i j k : ℕ) (s : Span) → IsBetween i j s → j ≤ k → IsBetween 0 k s
 wider i j k s h le = record { low = omega arith; order = h.order; high = omega (arith, h.high) }

@@ -1,5 +1,6 @@
 -- The key of the server transaction of a request (RFC 3261, section 17.2.3).
 use Rattle.std.specs.Prelude.{◌≡◌, ℕ, List, [], Option, Some, None, slice_range, unwrap_or}
+use Rattle.std.specs.Str.{str_to_ascii_lowercase}
 use Rattle.sip_words.specs.declared.Span.{Span}
 use Rattle.sip_msg.specs.declared.message.Message.{Message}
 use Rattle.sip_msg.specs.declared.start.Start.{Start}
@@ -21,8 +22,14 @@ method_in b (Request method uri) = part b method
 method_in b (Status code reason) = []
 
 -- the view shows the branch of the top Via, its host, its port or 5060, and this method
-pub record ShowsKey (b : List ℕ) (m : Message) (method : List ℕ) (view : KeyView) : Type 0 where
+pub record ShowsKey (b : List ℕ) (m : Message) (name : List ℕ) (view : KeyView) : Type 0 where
   pub branch : view.branch.now ≡ branch_in b m.via.branch
   pub host : view.host.now ≡ part b m.via.host_at
   pub port : view.port ≡ unwrap_or m.via.port 5060
-  pub method : view.method.now ≡ method
+  pub method : view.method.now ≡ name
+
+-- the top Vias of two requests have the same branch and the same sent-by, its host without regard to case
+pub record IsOfOneSender (b : List ℕ) (m : Message) (c : List ℕ) (n : Message) : Type 0 where
+  pub branch : branch_in b m.via.branch ≡ branch_in c n.via.branch
+  pub host : str_to_ascii_lowercase (part b m.via.host_at) ≡ str_to_ascii_lowercase (part c n.via.host_at)
+  pub port : unwrap_or m.via.port 5060 ≡ unwrap_or n.via.port 5060

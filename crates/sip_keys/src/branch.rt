@@ -1,8 +1,8 @@
 // The branches of this proxy's own Via values, and their texts.
 
-ghost use Rattle.std.specs.Prelude.{◌≡◌, ◌^◌, ◌<◌, ◌≤◌, ◌++◌, List, ℕ, drop, length, Some, IfSome, IfNone};
+ghost use Rattle.std.specs.Prelude.{◌≡◌, ◌↔◌, IsTrue, ◌+◌, ◌^◌, ◌<◌, ◌≤◌, ◌++◌, List, ℕ, drop, length, Some, IfSome, IfNone};
 ghost use Rattle.std.specs.Fmt.{decimal};
-ghost use Rattle.sip_keys.specs.Branches.{branch_text, front_text, numbers_text, IsBranch};
+ghost use Rattle.sip_keys.specs.Branches.{branch_text, front_text, numbers_text, HasWritten, IsBranch};
 ghost use Rattle.sip_keys.specs.declared.branch.Branch.{Branch};
 
 use itoa::Buffer;
@@ -30,8 +30,7 @@ fn put(out: &mut [u8], at: usize, bytes: &[u8]) -> usize
     requires room { at + length bytes.now ≤ length out.old }
     ensures place { result ≡ at + length bytes.now }
     ensures same_room { length out.new ≡ length out.old }
-    ensures written { (room text : List ℕ) → length text ≡ at → out.old ≡ text ++ drop at room
-        → out.new ≡ (text ++ bytes.now) ++ drop result room }
+    ensures written { (room text : List ℕ) → HasWritten room out.old text at → HasWritten room out.new (text ++ bytes.now) result }
 {
     let end = at + bytes.len();
     out[at..end].copy_from_slice(bytes);
@@ -102,13 +101,20 @@ fn numbers_of(text: &[u8]) -> Option<Branch>
     })
 }
 
+/// Whether these are the bytes before the first dot.
+fn is_front(front: &[u8], epoch: u32) -> bool
+    ensures { IsTrue result ↔ (front.now ≡ front_text epoch) }
+{
+    front == front_of(epoch).as_slice()
+}
+
 /// The branch of this epoch whose text it is.
 fn named_branch(epoch: u32, text: &[u8]) -> Option<Branch>
     ensures found { IfSome result (λ br. IsBranch br × (text.now ≡ branch_text epoch br)) }
     ensures none { IfNone result ((br : Branch) → IsBranch br → text.now ≡ branch_text epoch br → ⊥) }
 {
     let (front, numbers) = split_once(text, b'.')?;
-    if front != front_of(epoch).as_slice() {
+    if !is_front(front, epoch) {
         return None;
     }
     numbers_of(numbers)
@@ -116,7 +122,6 @@ fn named_branch(epoch: u32, text: &[u8]) -> Option<Branch>
 
 /// The branch of this epoch that the text names. None exactly where it is the text of none: with another epoch, a leading
 /// zero, a number past its bounds, or anything else.
-#[tactic(auto, using(crate::proofs::Names::only_one))]
 pub fn branch_of(epoch: u32, text: &[u8]) -> Option<Branch>
     // The text is the branch's.
     ensures found { IfSome result (λ br. IsBranch br × (text.now ≡ branch_text epoch br)) }
