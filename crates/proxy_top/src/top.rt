@@ -27,10 +27,10 @@ ghost use Rattle.proxy_top.specs.Endings.{
 };
 
 use crate::command::{Command, read_command};
-use numerals::push_number;
 use crate::scenario::{ScenarioFault, read_scenario};
 use crate::script::read_script;
 use crate::sim::run_sim;
+use numerals::push_number;
 use outside_ports::{Console, FileFault, Files, PrintEnd};
 use std::alloc::{AllocError as NoMemory, Global};
 

@@ -62,6 +62,7 @@ same_numbers a b is is' e =
   where
     made : ℕ → ℕ → ℕ → Branch
     made s g n = record { slot = s; generation = g; b = n }
+
     made_same : (s s' g g' n n' : ℕ) → s ≡ s' → g ≡ g' → n ≡ n' → made s g n ≡ made s' g' n'
     made_same s s' g g' n n' p q r = rw (p, q, r) refl
 

@@ -9,6 +9,5 @@ pub use branch::{Branch, branch_of, branch_text};
 pub use key::{invite_key, key_of};
 pub use server_key::KeyView;
 
-
 #[cfg(test)]
 mod tests;

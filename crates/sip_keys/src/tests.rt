@@ -22,7 +22,7 @@ fn has_key(
             assert!(rt; invite.branch == branch);
             assert!(rt; invite.host == host);
             assert_eq!(rt; invite.port, port);
-            assert!(rt; invite.method == b"INVITE");
+            assert!(rt; invite.method == b"INVITE".as_slice());
         }
         Err(_) => assert!(rt; false),
     }

@@ -8,7 +8,7 @@ use Rattle.sip_keys.proofs.Names.{front_split, no_front, named_found, named_none
 use Rattle.sip_keys.proofs.branch.named_branch.Goals as goal
 
 pub returns-in_err-front-clause-none : goal.returns-in_err-front-clause-none
-returns-in_err-front-clause-none c = 
+returns-in_err-front-clause-none c =
     let none : (br : Branch) → IsBranch br → c.args.text.now ≡ branch_text c.args.epoch br → ⊥ = λ br is e.
     no_front c.args.epoch c.args.text.now br c.in_err-front.ensures.none e in
     where_none _ _ none

@@ -7,26 +7,26 @@ use Rattle.sip_keys.proofs.Names.{slot_split, generation_split, no_slot, no_gene
 use Rattle.sip_keys.proofs.branch.numbers_of.Goals as goal
 
 pub returns-in_err-slot-clause-none : goal.returns-in_err-slot-clause-none
-returns-in_err-slot-clause-none c = 
+returns-in_err-slot-clause-none c =
     let none : (br : Branch) → IsBranch br → c.args.text.now ≡ numbers_text br → ⊥ = λ br is e. no_slot c.args.text.now br c.in_err-slot.ensures.none e in
     where_none _ _ none
 
 pub returns-in_err-generation-clause-none : goal.returns-in_err-generation-clause-none
-returns-in_err-generation-clause-none c = 
+returns-in_err-generation-clause-none c =
     let none : (br : Branch) → IsBranch br → c.args.text.now ≡ numbers_text br → ⊥ = λ br is e.
     let s = slot_split _ _ _ br c.in_ok-slot.ensures.found is e in
     no_generation _ br c.in_err-generation.ensures.none s.1 in
     where_none _ _ none
 
 pub returns-in_err-slot_of-clause-none : goal.returns-in_err-slot_of-clause-none
-returns-in_err-slot_of-clause-none c = 
+returns-in_err-slot_of-clause-none c =
     let none : (br : Branch) → IsBranch br → c.args.text.now ≡ numbers_text br → ⊥ = λ br is e.
     let s = slot_split _ _ _ br c.in_ok-slot.ensures.found is e in
     c.in_err-slot_of.ensures.none br.slot is.slot s.0 in
     where_none _ _ none
 
 pub returns-in_err-number-clause-none : goal.returns-in_err-number-clause-none
-returns-in_err-number-clause-none c = 
+returns-in_err-number-clause-none c =
     let none : (br : Branch) → IsBranch br → c.args.text.now ≡ numbers_text br → ⊥ = λ br is e.
     let s = slot_split _ _ _ br c.in_ok-slot.ensures.found is e in
     let g = generation_split _ _ _ br c.in_ok-generation.ensures.found is s.1 in
@@ -34,7 +34,7 @@ returns-in_err-number-clause-none c =
     where_none _ _ none
 
 pub returns-in_err-branch_number-clause-none : goal.returns-in_err-branch_number-clause-none
-returns-in_err-branch_number-clause-none c = 
+returns-in_err-branch_number-clause-none c =
     let none : (br : Branch) → IsBranch br → c.args.text.now ≡ numbers_text br → ⊥ = λ br is e.
     let s = slot_split _ _ _ br c.in_ok-slot.ensures.found is e in
     let g = generation_split _ _ _ br c.in_ok-generation.ensures.found is s.1 in
