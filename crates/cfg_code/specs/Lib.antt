@@ -1,0 +1,4 @@
+pub mod Flat
+pub mod Code
+pub mod Machine
+pub mod Follows

@@ -1,0 +1,70 @@
+// Code, and a script as code.
+
+ghost use Rattle.std.specs.Prelude.{◌≡◌, slice_get, slice_index_or};
+ghost use Rattle.std.specs.Option.{option_copied};
+
+use crate::instr::Instr;
+use cfg_tree::Parameters;
+use pv_values::{Patterns, TableSpec};
+use sqlite_items::Items;
+use std::marker::Model;
+
+/// The instructions of all blocks, and the place where each block begins.
+#[derive(Drop)]
+pub struct Code {
+    instrs: Items<Instr>,
+    entries: Items<usize>,
+}
+
+impl Model for Code {
+    ghost use Rattle.cfg_code.specs.Flat.{Flat};
+
+    ghost Value = { Flat };
+
+    ghost view = { λ c. record { instrs = c.instrs; entries = c.entries } };
+}
+
+impl Code {
+    /// Code of these instructions, whose blocks begin at these places.
+    pub fn new(instrs: Items<Instr>, entries: Items<usize>) -> Code
+        ensures { result ≡ record { instrs = instrs; entries = entries } }
+    {
+        Code { instrs, entries }
+    }
+
+    /// The instruction at a place.
+    pub fn instr(&self, place: usize) -> Option<&Instr>
+        ensures { option_copied result ≡ slice_get self.now.instrs place }
+    {
+        self.instrs.get(place)
+    }
+
+    /// The place where the block of this number begins. A block that isn't there is the empty one at
+    /// place 0.
+    pub fn entry(&self, block: u32) -> usize
+        ensures { result ≡ slice_index_or self.now.entries block 0 }
+    {
+        let entries = self.entries.as_slice();
+        let block = block as usize;
+        if block < entries.len() {
+            entries[block]
+        } else {
+            0
+        }
+    }
+}
+
+/// A script as code.
+#[derive(Drop)]
+pub struct Loaded {
+    pub code: Code,
+    /// The number of `request_route`.
+    pub request: u32,
+    /// The number of `reply_route`, where there is one.
+    pub reply: Option<u32>,
+    /// How many names of `$var` there are.
+    pub vars: u32,
+    pub patterns: Patterns,
+    pub tables: Items<TableSpec>,
+    pub parameters: Parameters,
+}
