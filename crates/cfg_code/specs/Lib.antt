@@ -2,3 +2,4 @@ pub mod Flat
 pub mod Code
 pub mod Machine
 pub mod Follows
+pub mod Sound

@@ -7,6 +7,7 @@
 
 pub mod code;
 pub mod instr;
+pub mod laws;
 pub mod machine;
 
 pub use code::{Code, Loaded};
