@@ -75,7 +75,7 @@ change i is c lc h l = seq c (i ∷ []) (at h l) (at (1 + h) l) (at (1 + h) l) (
 -- ---- expanded texts
 
 appends_fit : (ts : List Text) → Every Leaves ts → (h l : ℕ) → Fits (appends ts) (at (1 + h) l) (at (1 + h) l)
-appends_fit [] every h l behind g = (behind, refl, g)
+appends_fit [] every h l = λ behind g. (behind, refl, g)
 appends_fit (t ∷ ts) every h l =
     seq (appended t) (appends ts) (at (1 + h) l) (at (1 + h) l) (at (1 + h) l)
     (seq t (Append ∷ []) (at (1 + h) l) (at (1 + (1 + h)) l) (at (1 + h) l) (every.0 (1 + h) l) (move Append 2 1 h (1 + (1 + h)) (1 + h) l (λ s b m. m) (omega arith) refl))
@@ -89,7 +89,10 @@ texts_fit ts every h l =
 abbrev PartFits : Part → Type 0
 PartFits x = Leaves (part_code x)
 
-part_pairs : (ys : List ((x : Part) × PartFits x)) → Every Leaves (map part_code (map (λ e. e.0) ys))
+abbrev part_texts : List ((x : Part) × PartFits x) → List Text
+part_texts ys = map part_code (map (λ (e : (x : Part) × PartFits x). e.0) ys)
+
+part_pairs : (ys : List ((x : Part) × PartFits x)) → Every Leaves (part_texts ys)
 part_pairs [] = tt
 part_pairs (y ∷ ys) = (y.1, part_pairs ys)
 
@@ -98,7 +101,7 @@ part_layer (Part-F.Text t) = leaf (Push (val.Text t)) (λ s b m. m)
 part_layer (Part-F.Var x) = leaf (Load x) (λ s b m. m)
 part_layer Part-F.Code = leaf LastCode (λ s b m. m)
 part_layer (Part-F.Host x) = leaf (Read x) (λ s b m. m)
-part_layer (Part-F.Item way t key) = change (ReadItem way t) (λ s b m. m) _ (texts_fit _ (part_pairs key))
+part_layer (Part-F.Item way t key) = change (ReadItem way t) (λ s b m. m) (expansion_text (part_texts key)) (texts_fit (part_texts key) (part_pairs key))
 part_layer (Part-F.Transformed tr x) = change (Transform tr) (λ s b m. m) (part_code x.0) x.1
 
 part_fits : (x : Part) → PartFits x
@@ -114,7 +117,7 @@ expansion_fits : (xs : List Part) → Leaves (expansion_code xs)
 expansion_fits xs = texts_fit (map part_code xs) (parts_fit xs)
 
 arguments_fit : (xs : List (List Part)) (h l : ℕ) → Fits (arguments_code xs) (at h l) (at h l)
-arguments_fit [] h l behind g = (behind, refl, g)
+arguments_fit [] h l = λ behind g. (behind, refl, g)
 arguments_fit (x ∷ xs) h l =
     seq (argument_text (expansion_code x)) (arguments_code xs) (at h l) (at h l) (at h l)
     (seq (expansion_code x) (Argument ∷ []) (at h l) (at (1 + h) l) (at h l) (expansion_fits x h l) (move Argument 1 0 h (1 + h) h l (λ s b m. m) refl (omega arith)))
@@ -142,7 +145,7 @@ abbrev Operand : (Wanted → Text) → Type 0
 Operand t = (w : Wanted) → Leaves (t w)
 
 links_fit : (cs : List (BinOp × (Wanted → Text))) → Every (λ c. Operand c.1) cs → (h l : ℕ) → Fits (links_text cs) (at (1 + h) l) (at (1 + h) l)
-links_fit [] every h l behind g = (behind, refl, g)
+links_fit [] every h l = λ behind g. (behind, refl, g)
 links_fit (c ∷ cs) every h l =
     seq (link_text c.0 (c.1 AsValue)) (links_text cs) (at (1 + h) l) (at (1 + h) l) (at (1 + h) l)
     (seq (c.1 AsValue) (Binary c.0 ∷ []) (at (1 + h) l) (at (1 + (1 + h)) l) (at (1 + h) l) (every.0 AsValue (1 + h) l) (move (Binary c.0) 2 1 h (1 + (1 + h)) (1 + h) l (λ s b m. m) (omega arith) refl))
@@ -157,12 +160,12 @@ passing_fits i a is la h l behind g =
     (at (1 + h) l ∷ R.0, (is (at (1 + h) l) R.0 ((h, h, refl, omega arith, R.2), passed t R.0 behind 0 (length a + 1) R.1 long ∙ g), R.1), refl)
 
 ands_fit : (ts : List (Wanted → Text)) → Every Operand ts → (h l : ℕ) → Fits (ands_text ts) (at (1 + h) l) (at (1 + h) l)
-ands_fit [] every h l behind g = (behind, refl, g)
+ands_fit [] every h l = λ behind g. (behind, refl, g)
 ands_fit (t ∷ ts) every h l = seq (and_text (t AsTruth)) (ands_text ts) (at (1 + h) l) (at (1 + h) l) (at (1 + h) l)
     (passing_fits (AndThen (length (t AsTruth) + 1)) (t AsTruth) (λ s b m. m) (every.0 AsTruth) h l) (ands_fit ts every.1 h l)
 
 ors_fit : (ts : List (Wanted → Text)) → Every Operand ts → (h l : ℕ) → Fits (ors_text ts) (at (1 + h) l) (at (1 + h) l)
-ors_fit [] every h l behind g = (behind, refl, g)
+ors_fit [] every h l = λ behind g. (behind, refl, g)
 ors_fit (t ∷ ts) every h l = seq (or_text (t AsTruth)) (ors_text ts) (at (1 + h) l) (at (1 + h) l) (at (1 + h) l)
     (passing_fits (OrElse (length (t AsTruth) + 1)) (t AsTruth) (λ s b m. m) (every.0 AsTruth) h l) (ors_fit ts every.1 h l)
 
@@ -172,12 +175,17 @@ pushed_fits v c fc h l = seq (Push v ∷ []) c (at h l) (at (1 + h) l) (at (1 + 
 abbrev ExprFits : Expr → Type 0
 ExprFits e = Operand (expr_code e)
 
-expr_pairs : (ys : List ((e : Expr) × ExprFits e)) → Every Operand (map expr_code (map (λ e. e.0) ys))
+abbrev expr_texts : List ((e : Expr) × ExprFits e) → List (Wanted → Text)
+expr_texts ys = map expr_code (map (λ (e : (e : Expr) × ExprFits e). e.0) ys)
+
+expr_pairs : (ys : List ((e : Expr) × ExprFits e)) → Every Operand (expr_texts ys)
 expr_pairs [] = tt
 expr_pairs (y ∷ ys) = (y.1, expr_pairs ys)
 
-link_pairs : (ys : List (BinOp × ((e : Expr) × ExprFits e))) →
-    Every (λ (c : BinOp × (Wanted → Text)). Operand c.1) (map (λ (c : BinOp × Expr). (c.0, expr_code c.1)) (map (λ (c : BinOp × ((e : Expr) × ExprFits e)). (c.0, c.1.0)) ys))
+abbrev link_texts : List (BinOp × ((e : Expr) × ExprFits e)) → List (BinOp × (Wanted → Text))
+link_texts ys = map (λ (c : BinOp × Expr). (c.0, expr_code c.1)) (map (λ (c : BinOp × ((e : Expr) × ExprFits e)). (c.0, c.1.0)) ys)
+
+link_pairs : (ys : List (BinOp × ((e : Expr) × ExprFits e))) → Every (λ (c : BinOp × (Wanted → Text)). Operand c.1) (link_texts ys)
 link_pairs [] = tt
 link_pairs (y ∷ ys) = (y.1.1, link_pairs ys)
 
@@ -188,14 +196,14 @@ expr_layer : (y : Expr-F ((e : Expr) × ExprFits e)) → Operand (expr_text (map
 expr_layer (Expr-F.Int n) = λ w. leaf (Push (val.Int n)) (λ s b m. m)
 expr_layer (Expr-F.Text t) = λ w. leaf (Push (limited t)) (λ s b m. m)
 expr_layer (Expr-F.Read x) = λ w. part_fits x
-expr_layer (Expr-F.Call f args) = called_fits _ (function_fits args (Call f) (λ s b m. m))
-expr_layer (Expr-F.Route b) = called_fits _ (still (Enter b) (λ s b m. m))
-expr_layer (Expr-F.Not a) = λ w. change Not (λ s b m. m) _ (a.1 AsTruth)
-expr_layer (Expr-F.Negative a) = λ w. change Negate (λ s b m. m) _ (a.1 AsValue)
-expr_layer (Expr-F.Chain a cs) = λ w. chain_fits _ (a.1 AsValue) _ (link_pairs cs)
-expr_layer (Expr-F.Matches a p) = λ w. change (Match p) (λ s b m. m) _ (a.1 AsValue)
-expr_layer (Expr-F.All ms) = λ w. pushed_fits (bit true) _ (ands_fit _ (expr_pairs ms))
-expr_layer (Expr-F.Any ms) = λ w. pushed_fits (bit false) _ (ors_fit _ (expr_pairs ms))
+expr_layer (Expr-F.Call f args) = called_fits (arguments_code args ++ Call f ∷ []) (function_fits args (Call f) (λ s b m. m))
+expr_layer (Expr-F.Route b) = called_fits (Enter b ∷ []) (still (Enter b) (λ s b m. m))
+expr_layer (Expr-F.Not a) = λ w. change Not (λ s b m. m) (expr_code a.0 AsTruth) (a.1 AsTruth)
+expr_layer (Expr-F.Negative a) = λ w. change Negate (λ s b m. m) (expr_code a.0 AsValue) (a.1 AsValue)
+expr_layer (Expr-F.Chain a cs) = λ w. chain_fits (expr_code a.0 AsValue) (a.1 AsValue) (link_texts cs) (link_pairs cs)
+expr_layer (Expr-F.Matches a p) = λ w. change (Match p) (λ s b m. m) (expr_code a.0 AsValue) (a.1 AsValue)
+expr_layer (Expr-F.All ms) = λ w. pushed_fits (bit true) (ands_text (expr_texts ms)) (ands_fit (expr_texts ms) (expr_pairs ms))
+expr_layer (Expr-F.Any ms) = λ w. pushed_fits (bit false) (ors_text (expr_texts ms)) (ors_fit (expr_texts ms) (expr_pairs ms))
 
 expr_fits : (e : Expr) → ExprFits e
 expr_fits = ind-Expr ExprFits (λ x y is. subst (λ x. ExprFits (roll-Expr x)) is (
@@ -205,7 +213,7 @@ expr_fits = ind-Expr ExprFits (λ x y is. subst (λ x. ExprFits (roll-Expr x)) i
 -- ---- statements
 
 joined_fits : (ts : List Text) → Every Keeps ts → Keeps (joined ts)
-joined_fits [] every l behind g = (behind, refl, g)
+joined_fits [] every l = λ behind g. (behind, refl, g)
 joined_fits (t ∷ ts) every l = seq t (joined ts) (at 0 l) (at 0 l) (at 0 l) (every.0 l) (joined_fits ts every.1 l)
 
 take_fits : (i : Instr) → ((s : Shape) (behind : List Shape) → Moves 1 0 s behind → IsFine i s behind) → (c : Text) → Leaves c → Keeps (c ++ i ∷ [])
@@ -215,14 +223,14 @@ counted_fits : (c : Text) → Keeps c → Keeps (Count ∷ c)
 counted_fits c kc l = seq (Count ∷ []) c (at 0 l) (at 0 l) (at 0 l) (still Count (λ s b m. m) 0 l) (kc l)
 
 set_fits : (x : Target) (c : Text) → Leaves c → Keeps (set_text x c)
-set_fits (target.Var x) c lc = counted_fits _ (take_fits (Store x) (λ s b m. m) c lc)
-set_fits (target.Host x) c lc = counted_fits _ (take_fits (Write x) (λ s b m. m) c lc)
-set_fits (target.Item way t key) c lc = counted_fits _ (λ l.
+set_fits (target.Var x) c lc = counted_fits (c ++ Store x ∷ []) (take_fits (Store x) (λ s b m. m) c lc)
+set_fits (target.Host x) c lc = counted_fits (c ++ Write x ∷ []) (take_fits (Write x) (λ s b m. m) c lc)
+set_fits (target.Item way t key) c lc = counted_fits (expansion_code key ++ (c ++ WriteItem way t ∷ [])) (λ l.
     seq (expansion_code key) (c ++ WriteItem way t ∷ []) (at 0 l) (at 1 l) (at 0 l) (expansion_fits key 0 l)
     (seq c (WriteItem way t ∷ []) (at 1 l) (at 2 l) (at 0 l) (lc 1 l) (move (WriteItem way t) 2 0 0 2 0 l (λ s b m. m) refl refl)))
 
 if_fits : (c a b : Text) → Leaves c → Keeps a → Keeps b → Keeps (if_text c a b)
-if_fits c a b lc ka kb = counted_fits _ (λ l behind g.
+if_fits c a b lc ka kb = counted_fits (c ++ (PassUnless (length a + 1) ∷ (a ++ (Pass (length b) ∷ b)))) (λ l behind g.
     let B = kb l behind g in
     let P = at 0 l ∷ B.0 in
     let A = ka l P refl in
@@ -231,11 +239,11 @@ if_fits c a b lc ka kb = counted_fits _ (λ l behind g.
     let pass : AreFine (Pass (length b) ∷ b) P behind = (passed b B.0 behind 0 (length b) B.1 end ∙ g, B.1) in
     let to_b : Leads A.0 (length a + 1) (at 0 l) = passed a A.0 P 1 (length a + 1) A.1 refl ∙ B.2 in
     let test : AreFine (PassUnless (length a + 1) ∷ (a ++ (Pass (length b) ∷ b))) (at 1 l ∷ A.0) behind =
-          (((0, 0, refl, refl, A.2), (0, refl, to_b)), fine_append a (Pass (length b) ∷ b) A.0 P behind A.1 pass) in
+          (((0, 0, refl, refl, A.2), 0, refl, to_b), fine_append a (Pass (length b) ∷ b) A.0 P behind A.1 pass) in
     (C.0, fine_append c _ C.0 (at 1 l ∷ A.0) behind C.1 test, C.2))
 
 while_fits : (c a : Text) → Leaves c → Keeps a → Keeps (while_text c a)
-while_fits c a lc ka = counted_fits _ (λ l behind g.
+while_fits c a lc ka = counted_fits (Begin (length c + length a + 4) ∷ (c ++ (PassUnless (length a + 2) ∷ Round ∷ (a ++ Again ∷ Finish ∷ [])))) (λ l behind g.
     let m = l + 1 in
     let some : 0 < m = omega arith in
     let F = at 0 m ∷ behind in
@@ -244,13 +252,13 @@ while_fits c a lc ka = counted_fits _ (λ l behind g.
     let Q = at 0 m ∷ A.0 in
     let S = at 1 m ∷ Q in
     let C = lc 0 m S refl in
-    let last : AreFine (Again ∷ Finish ∷ []) E behind = ((refl, some), (refl, (l, refl, g)), refl) in
+    let last : AreFine (Again ∷ Finish ∷ []) E behind = ((refl, some), ((refl, l, refl, g), refl)) in
     let body : AreFine (a ++ Again ∷ Finish ∷ []) A.0 behind = fine_append a (Again ∷ Finish ∷ []) A.0 E behind A.1 last in
     let round : AreFine (Round ∷ (a ++ Again ∷ Finish ∷ [])) Q behind = ((refl, some, A.2), body) in
     let two : length a + 2 ≡ suc (length a + 1) = omega arith in
     let out : Leads Q (length a + 2) (at 0 m) = ap (λ i. slice_get Q i) two ∙ passed a A.0 E 1 (length a + 1) A.1 refl in
     let rest = PassUnless (length a + 2) ∷ Round ∷ (a ++ Again ∷ Finish ∷ []) in
-    let test : AreFine rest S behind = (((0, 0, refl, refl, refl), (0, refl, out)), round) in
+    let test : AreFine rest S behind = (((0, 0, refl, refl, refl), 0, refl, out), round) in
     let n = length c + length a + 4 in
     let past_c : n ≡ length c + suc (suc (length a + 2)) = omega arith in
     let exit : Leads C.0 n (at 0 l) = passed c C.0 S (suc (suc (length a + 2))) n C.1 past_c ∙ passed a A.0 E 2 (length a + 2) A.1 refl ∙ g in
@@ -276,7 +284,7 @@ cases_fit (c ∷ cs) every l behind g h =
     record { all = at 1 l ∷ B.0; fine = fine_append (case_text c.0 b) (cases_text cs) (at 1 l ∷ B.0) more.all behind one more.fine; first = refl; second = B.2 }
 
 switch_fits : (c : Text) → Leaves c → (cs : List (Val × List Text)) → Every (λ (c : Val × List Text). Every Keeps c.1) cs → (a : Text) → Keeps a → Keeps (switch_text c (cases_text cs) a)
-switch_fits c lc cs every a ka = counted_fits _ (λ l behind g.
+switch_fits c lc cs every a ka = counted_fits (Begin (length c + length (cases_text cs) + length a + 2) ∷ (c ++ (cases_text cs ++ (Forget ∷ (a ++ Finish ∷ []))))) (λ l behind g.
     let m = l + 1 in
     let ts = cases_text cs in
     let F = at 0 m ∷ behind in
@@ -284,7 +292,7 @@ switch_fits c lc cs every a ka = counted_fits _ (λ l behind g.
     let G = at 1 m ∷ A.0 in
     let T = cases_fit cs every m G refl A.2 in
     let C = lc 0 m T.all T.first in
-    let last : AreFine (Finish ∷ []) F behind = ((refl, (l, refl, g)), refl) in
+    let last : AreFine (Finish ∷ []) F behind = ((refl, l, refl, g), refl) in
     let default : AreFine (Forget ∷ (a ++ Finish ∷ [])) G behind = ((0, 0, refl, refl, A.2), fine_append a (Finish ∷ []) A.0 F behind A.1 last) in
     let tests : AreFine (ts ++ (Forget ∷ (a ++ Finish ∷ []))) T.all behind = fine_append ts _ T.all G behind T.fine default in
     let n = length c + length ts + length a + 2 in
@@ -295,8 +303,8 @@ switch_fits c lc cs every a ka = counted_fits _ (λ l behind g.
     (at 0 l ∷ C.0, ((refl, C.2, exit), fine_append c _ C.0 T.all behind C.1 tests), refl))
 
 return_fits : (o : Option Expr) → Keeps (Count ∷ return_text o)
-return_fits None = counted_fits _ (λ l behind g. (at 0 l ∷ at 1 l ∷ behind, ((0, 1, refl, refl, refl), refl, refl), refl))
-return_fits (Some e) = counted_fits _ (λ l behind g.
+return_fits None = counted_fits (Push (val.Int (pos 1)) ∷ Return ∷ []) (λ l behind g. (at 0 l ∷ at 1 l ∷ behind, ((0, 1, refl, refl, refl), (refl, refl)), refl))
+return_fits (Some e) = counted_fits (expr_code e AsValue ++ Return ∷ []) (λ l behind g.
     let C = expr_fits e AsValue 0 l (at 1 l ∷ behind) refl in
     (C.0, fine_append (expr_code e AsValue) (Return ∷ []) C.0 (at 1 l ∷ behind) behind C.1 (refl, refl), C.2))
 
@@ -306,24 +314,30 @@ StmtFits s = Keeps (stmt_code s)
 abbrev Stmts : Type 0
 Stmts = List ((s : Stmt) × StmtFits s)
 
-stmt_pairs : (ys : Stmts) → Every Keeps (map stmt_code (map (λ e. e.0) ys))
+abbrev stmt_texts : Stmts → List Text
+stmt_texts ys = map stmt_code (map (λ (e : (s : Stmt) × StmtFits s). e.0) ys)
+
+stmt_pairs : (ys : Stmts) → Every Keeps (stmt_texts ys)
 stmt_pairs [] = tt
 stmt_pairs (y ∷ ys) = (y.1, stmt_pairs ys)
 
-case_pairs : (ys : List (Val × Stmts)) → Every (λ (c : Val × List Text). Every Keeps c.1) (map (λ (c : Val × List Stmt). (c.0, map stmt_code c.1)) (map (λ (c : Val × Stmts). (c.0, map (λ e. e.0) c.1)) ys))
+abbrev case_texts : List (Val × Stmts) → List (Val × List Text)
+case_texts ys = map (λ (c : Val × List Stmt). (c.0, map stmt_code c.1)) (map (λ (c : Val × Stmts). (c.0, map (λ (e : (s : Stmt) × StmtFits s). e.0) c.1)) ys)
+
+case_pairs : (ys : List (Val × Stmts)) → Every (λ (c : Val × List Text). Every Keeps c.1) (case_texts ys)
 case_pairs [] = tt
 case_pairs (y ∷ ys) = (stmt_pairs y.1, case_pairs ys)
 
 stmt_layer : (y : Stmt-F ((s : Stmt) × StmtFits s)) → Keeps (stmt_text (map-Stmt _ _ stmt_code (map-Stmt _ _ (λ e. e.0) y)))
-stmt_layer (Stmt-F.Set x e) = set_fits x _ (expr_fits e AsValue)
-stmt_layer (Stmt-F.Do e) = take_fits Forget (λ s b m. m) _ (expr_fits e AsValue)
-stmt_layer (Stmt-F.If e a b) = if_fits _ _ _ (expr_fits e AsTruth) (joined_fits _ (stmt_pairs a)) (joined_fits _ (stmt_pairs b))
-stmt_layer (Stmt-F.While e body) = while_fits _ _ (expr_fits e AsTruth) (joined_fits _ (stmt_pairs body))
-stmt_layer (Stmt-F.Switch e cs last) = switch_fits _ (expr_fits e AsValue) _ (case_pairs cs) _ (joined_fits _ (stmt_pairs last))
+stmt_layer (Stmt-F.Set x e) = set_fits x (expr_code e AsValue) (expr_fits e AsValue)
+stmt_layer (Stmt-F.Do e) = take_fits Forget (λ s b m. m) (expr_code e AsValue) (expr_fits e AsValue)
+stmt_layer (Stmt-F.If e a b) = if_fits (expr_code e AsTruth) (joined (stmt_texts a)) (joined (stmt_texts b)) (expr_fits e AsTruth) (joined_fits (stmt_texts a) (stmt_pairs a)) (joined_fits (stmt_texts b) (stmt_pairs b))
+stmt_layer (Stmt-F.While e body) = while_fits (expr_code e AsTruth) (joined (stmt_texts body)) (expr_fits e AsTruth) (joined_fits (stmt_texts body) (stmt_pairs body))
+stmt_layer (Stmt-F.Switch e cs last) = switch_fits (expr_code e AsValue) (expr_fits e AsValue) (case_texts cs) (case_pairs cs) (joined (stmt_texts last)) (joined_fits (stmt_texts last) (stmt_pairs last))
 stmt_layer Stmt-F.Break = λ l behind g. (at 0 l ∷ behind, (refl, refl), refl)
 stmt_layer (Stmt-F.Return o) = return_fits o
-stmt_layer Stmt-F.Exit = counted_fits _ (λ l behind g. (at 0 l ∷ behind, (tt, refl), refl))
-stmt_layer Stmt-F.Drop = counted_fits _ (λ l behind g. (at 0 l ∷ behind, (tt, refl), refl))
+stmt_layer Stmt-F.Exit = counted_fits (Exit ∷ []) (λ l behind g. (at 0 l ∷ behind, (tt, refl), refl))
+stmt_layer Stmt-F.Drop = counted_fits (Drop ∷ []) (λ l behind g. (at 0 l ∷ behind, (tt, refl), refl))
 
 stmt_fits : (s : Stmt) → StmtFits s
 stmt_fits = ind-Stmt StmtFits (λ x y is. subst (λ x. StmtFits (roll-Stmt x)) is (

@@ -72,6 +72,10 @@ pub record IsSound (code : Flat) (shapes : List Shape) : Type 0 where
   pub fine : AreFine code.instrs shapes []
   pub blocks : (b : ℕ) → Leads shapes (slice_index_or code.entries b 0) nothing
 
+-- there are shapes with which these instructions are sound, whose blocks begin at these places
+pub record AllSound (instrs : List Instr) (entries : List ℕ) : Type 0 where
+  pub shapes : ∥ ((shapes : List Shape) × IsSound (record { instrs = instrs; entries = entries }) shapes) ∥₁
+
 -- what stands at these instructions, and behind them, where this stands at the first of them
 abbrev pub Shaped : List Instr → Shape → List Shape → Type 0
 Shaped instrs s behind = (all : List Shape) × AreFine instrs all behind × Leads all 0 s

@@ -9,7 +9,8 @@ use pv_values::{Patterns, TableSpec};
 use sqlite_items::Items;
 use std::marker::Model;
 
-/// The instructions of all blocks, and the place where each block begins.
+/// The instructions of all blocks, and the place where each block begins. Each place that a jump can
+/// reach is in the code, and no instruction takes more from the operand stack than stands there.
 #[derive(Drop)]
 pub struct Code {
     instrs: Items<Instr>,
@@ -18,15 +19,21 @@ pub struct Code {
 
 impl Model for Code {
     ghost use Rattle.cfg_code.specs.Flat.{Flat};
+    ghost use Rattle.cfg_code.specs.Sound.{AllSound};
 
     ghost Value = { Flat };
 
     ghost view = { λ c. record { instrs = c.instrs; entries = c.entries } };
+
+    ghost invariant = { λ c. AllSound c.instrs c.entries };
 }
 
 impl Code {
+    ghost use Rattle.cfg_code.specs.Sound.{AllSound};
+
     /// Code of these instructions, whose blocks begin at these places.
     pub fn new(instrs: Items<Instr>, entries: Items<usize>) -> Code
+        requires { AllSound instrs entries }
         ensures { result ≡ record { instrs = instrs; entries = entries } }
     {
         Code { instrs, entries }

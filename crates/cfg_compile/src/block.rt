@@ -7,6 +7,7 @@ ghost use Rattle.cfg_compile.specs.Blocks.{StandsFor};
 
 use crate::stmt::list_text;
 use crate::text::{ended, one};
+use cfg_code::laws::the_code_of_a_block_is_sound;
 use cfg_code::{Code, Instr, Loaded};
 use cfg_tree::{Script, Stmt};
 use sqlite_items::Items;
@@ -43,6 +44,7 @@ pub fn compile(alloc: Global, script: Script) -> Result<Loaded, NoMemory>
 fn blocks_code(alloc: Global, blocks: &[Items<Stmt>]) -> Result<Code, NoMemory>
     ensures { IfOk result (λ code. StandsFor code.instrs code.entries blocks.now) }
 {
+    the_code_of_a_block_is_sound();
     let mut instrs = one(alloc, Instr::EndBlock)?;
     let mut entries = Items::new(alloc);
     for block in blocks {
