@@ -9,3 +9,6 @@ mod text;
 
 pub use block::compile;
 
+
+#[cfg(test)]
+mod tests;

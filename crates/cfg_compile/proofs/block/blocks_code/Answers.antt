@@ -1,7 +1,13 @@
 use Rattle.std.proofs.Common.{◌∙◌, ap}
 use Rattle.cfg_code.specs.Code.{block_code}
-use Rattle.cfg_compile.proofs.Lays.{laid_on}
+use Rattle.cfg_compile.proofs.Lays.{laid_none, laid_sound, laid_on}
 use Rattle.cfg_compile.proofs.block.blocks_code.Goals as goal
+
+pub loop-block-init : goal.loop-block-init
+loop-block-init c = rw (c.in_ok-instrs.ensures, c.new-entries.ensures) laid_none
+
+pub new-requires : goal.new-requires
+new-requires c = laid_sound c.loop-block.instrs c.loop-block.entries _ c.loop-block.invariant
 
 pub loop-block-preserved : goal.loop-block-preserved
 loop-block-preserved c =
