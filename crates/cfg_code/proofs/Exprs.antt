@@ -16,7 +16,7 @@ use Rattle.cfg_tree.specs.Meaning.{RunTalk, State, WithValue, WithCode, Valued, 
 use Rattle.cfg_code.specs.declared.instr.Instr.TheVariants.{Push, LastCode, Success, Call, Settle, Enter, Binary, Negate, Not, Truth, Match, AndThen, OrElse}
 use Rattle.cfg_code.specs.declared.code.Loaded.{Loaded}
 use Rattle.cfg_code.specs.declared.machine.Frame.{Frame}
-use Rattle.cfg_code.specs.Code.{Text, wanted_text, called_text, arguments_code, link_text, links_text, and_text, ands_text, or_text, ors_text, expr_text, expr_code}
+use Rattle.cfg_code.specs.Code.{Text, called_text, arguments_code, link_text, links_text, and_text, ands_text, or_text, ors_text, expr_text, expr_code}
 use Rattle.cfg_code.specs.Machine.{changing}
 use Rattle.cfg_code.specs.Follows.{HasAt, Behaves}
 use Rattle.cfg_code.proofs.Places.{has_front, has_back, run_with, run_at, by_act, at_place, count_right, Each, Right, change_right}
@@ -105,7 +105,7 @@ module _ (loaded : Loaded) (d : ℕ) where
       let ts = links_text cs in
       let len : p + length a + length ts ≡ p + length (a ++ ts) = omega (arith, length-append a ts) in
       ra p stack frames s _ (has_front code p a ts has)
-        (links_right cs es each (p + length a) stack frames next (has_back code p a ts has) (λ v s. at_place loaded [] _ _ (v ∷ stack) frames d s _ len (k v s)))
+      (links_right cs es each (p + length a) stack frames next (has_back code p a ts has) (λ v s. at_place loaded [] _ _ (v ∷ stack) frames d s _ len (k v s)))
 
   -- `&&` with a 1 or a 0 before its operands
   ands_false : (ts : List (Wanted → Text)) (p : ℕ) (stack : List Val) (frames : List Frame) (next : WithValue) → HasAt loaded.code.instrs p (ands_text ts) →

@@ -1,6 +1,5 @@
 -- The code of parts and of expanded texts does what they mean.
-use Rattle.std.proofs.Common.{◌≡◌, ℕ, ◌+◌, List, [], ◌∷◌, ◌++◌, length, map, Some, refl, sym, subst, arith, length-append}
-use Rattle.std.specs.Prelude.{slice_get}
+use Rattle.std.proofs.Common.{◌≡◌, ℕ, ◌+◌, List, [], ◌∷◌, ◌++◌, length, map, refl, sym, subst, arith, length-append}
 use Rattle.pv_values.specs.declared.value.Val.{Val}
 use Rattle.pv_values.specs.declared.value.Val.TheVariants as val
 use Rattle.pv_values.specs.Values.{text_of, limited, told_value}
@@ -10,7 +9,7 @@ use Rattle.cfg_tree.specs.declared.script.Part.{Part}
 use Rattle.cfg_tree.specs.declared.script.Part.TheOpen.{Part-F}
 use Rattle.cfg_tree.specs.declared.script.Part.TheViews.{roll-Part}
 use Rattle.cfg_tree.specs.declared.script.Part.TheFolds.{fold-roll-Part, ind-Part, map-Part}
-use Rattle.cfg_tree.specs.Meaning.{State, WithValue, WithText, WithValues, Valued, item_of, texts_behind, expanded, read_host, part_step, part_of, expansion_of, arguments_behind}
+use Rattle.cfg_tree.specs.Meaning.{State, WithText, WithValues, Valued, item_of, texts_behind, expanded, read_host, part_step, part_of, expansion_of, arguments_behind}
 use Rattle.cfg_code.specs.declared.instr.Instr.TheVariants.{Push, Load, LastCode, Read, ReadItem, Transform, Append, Limit, Argument}
 use Rattle.cfg_code.specs.declared.code.Loaded.{Loaded}
 use Rattle.cfg_code.specs.declared.machine.Frame.{Frame}

@@ -1,5 +1,5 @@
 -- The code of a tree is sound.
-use Rattle.std.proofs.Common.{◌≡◌, ℕ, zero, suc, ◌+◌, ◌<◌, pos, true, false, List, [], ◌∷◌, ◌++◌, length, map, Option, Some, None, refl, sym, ap, ◌∙◌, subst, arith, length-append}
+use Rattle.std.proofs.Common.{◌≡◌, ℕ, suc, ◌+◌, ◌<◌, pos, true, false, List, [], ◌∷◌, ◌++◌, length, map, Option, Some, None, refl, sym, ap, ◌∙◌, subst, arith, length-append}
 use Rattle.std.specs.Prelude.{slice_get}
 use Rattle.pv_values.specs.declared.value.Val.{Val}
 use Rattle.pv_values.specs.declared.value.Val.TheVariants as val
@@ -21,7 +21,7 @@ use Rattle.cfg_tree.specs.declared.script.Stmt.TheViews.{roll-Stmt}
 use Rattle.cfg_tree.specs.declared.script.Stmt.TheFolds.{fold-roll-Stmt, ind-Stmt, map-Stmt}
 use Rattle.cfg_tree.specs.Meaning.{Wanted, AsValue, AsTruth}
 use Rattle.cfg_code.specs.declared.instr.Instr.{Instr}
-use Rattle.cfg_code.specs.declared.instr.Instr.TheVariants.{Push, Load, LastCode, Success, Store, Read, ReadItem, Write, WriteItem, Transform, Append, Limit, Argument, Call, Settle, Enter, Binary, Negate, Not, Truth, Match, AndThen, OrElse, Forget, Count, PassUnless, Pass, Case, Begin, Round, Again, Finish, Break, Return, Exit, Drop, EndBlock}
+use Rattle.cfg_code.specs.declared.instr.Instr.TheVariants.{Push, Load, LastCode, Success, Store, Read, ReadItem, Write, WriteItem, Transform, Append, Limit, Argument, Call, Settle, Enter, Binary, Negate, Not, Truth, Match, AndThen, OrElse, Forget, Count, PassUnless, Pass, Begin, Round, Again, Finish, Return, Exit, Drop, EndBlock}
 use Rattle.cfg_code.specs.Code.{Text, joined, appended, appends, expansion_text, part_text, part_code, expansion_code, wanted_text, called_text, argument_text, arguments_code, link_text, links_text, and_text, ands_text, or_text, ors_text, expr_text, expr_code, set_text, if_text, while_text, case_text, cases_text, switch_text, return_text, stmt_text, stmt_code, list_code, block_code}
 use Rattle.cfg_code.specs.Sound.{Shape, nothing, Leads, Moves, IsFine, AreFine, Shaped}
 
@@ -239,7 +239,7 @@ if_fits c a b lc ka kb = counted_fits (c ++ (PassUnless (length a + 1) ∷ (a ++
     let pass : AreFine (Pass (length b) ∷ b) P behind = (passed b B.0 behind 0 (length b) B.1 end ∙ g, B.1) in
     let to_b : Leads A.0 (length a + 1) (at 0 l) = passed a A.0 P 1 (length a + 1) A.1 refl ∙ B.2 in
     let test : AreFine (PassUnless (length a + 1) ∷ (a ++ (Pass (length b) ∷ b))) (at 1 l ∷ A.0) behind =
-          (((0, 0, refl, refl, A.2), 0, refl, to_b), fine_append a (Pass (length b) ∷ b) A.0 P behind A.1 pass) in
+    (((0, 0, refl, refl, A.2), 0, refl, to_b), fine_append a (Pass (length b) ∷ b) A.0 P behind A.1 pass) in
     (C.0, fine_append c _ C.0 (at 1 l ∷ A.0) behind C.1 test, C.2))
 
 while_fits : (c a : Text) → Leaves c → Keeps a → Keeps (while_text c a)
@@ -298,8 +298,8 @@ switch_fits c lc cs every a ka = counted_fits (Begin (length c + length (cases_t
     let n = length c + length ts + length a + 2 in
     let past_c : n ≡ length c + (length ts + suc (length a + 1)) = omega arith in
     let exit : Leads C.0 n (at 0 l) =
-          passed c C.0 T.all (length ts + suc (length a + 1)) n C.1 past_c ∙ passed ts T.all G (suc (length a + 1)) (length ts + suc (length a + 1)) T.fine refl
-          ∙ passed a A.0 F 1 (length a + 1) A.1 refl ∙ g in
+    passed c C.0 T.all (length ts + suc (length a + 1)) n C.1 past_c ∙ passed ts T.all G (suc (length a + 1)) (length ts + suc (length a + 1)) T.fine refl
+    ∙ passed a A.0 F 1 (length a + 1) A.1 refl ∙ g in
     (at 0 l ∷ C.0, ((refl, C.2, exit), fine_append c _ C.0 T.all behind C.1 tests), refl))
 
 return_fits : (o : Option Expr) → Keeps (Count ∷ return_text o)

@@ -1,9 +1,8 @@
 -- The code of a statement, and of a block, does what it means.
 use Rattle.std.proofs.Common.{◌≡◌, ℕ, zero, suc, ◌+◌, ℤ, pos, true, false, List, [], ◌∷◌, ◌++◌, length, map, Option, Some, None, refl, sym, subst, arith, append_assoc, length-append}
-use Rattle.std.specs.Prelude.{slice_get, if◌then◌else◌}
+use Rattle.std.specs.Prelude.{if◌then◌else◌}
 use Rattle.pv_values.specs.declared.value.Val.{Val}
 use Rattle.pv_values.specs.declared.value.Val.TheVariants as val
-use Rattle.pv_values.specs.declared.variable.PvUse.{PvUse}
 use Rattle.pv_values.specs.declared.run.Env.{Env}
 use Rattle.pv_values.specs.declared.run.How.TheVariants as how
 use Rattle.pv_values.specs.Values.{is_true, same as is_label, code_of, text_of}
@@ -17,14 +16,14 @@ use Rattle.cfg_tree.specs.declared.script.Stmt.TheOpen.{Stmt-F}
 use Rattle.cfg_tree.specs.declared.script.Stmt.TheViews.{roll-Stmt}
 use Rattle.cfg_tree.specs.declared.script.Stmt.TheFolds.{fold-roll-Stmt, ind-Stmt, map-Stmt}
 use Rattle.cfg_tree.specs.declared.script.Script.{Script}
-use Rattle.cfg_tree.specs.Meaning.{RunTalk, State, Valued, AsValue, AsTruth, Routes, put_var, ends, counted, counted_from, item_of, expansion_of, expr_of, Ways, Made, in_order, rounds, onward, chosen, write_host, assigned, returned, stmt_step, stmt_of, block_of, block_at, routes_to, end_of, max_statements, dialogue}
+use Rattle.cfg_tree.specs.Meaning.{RunTalk, State, Valued, AsValue, AsTruth, Routes, put_var, ends, counted, item_of, expansion_of, expr_of, Ways, Made, in_order, rounds, onward, chosen, write_host, assigned, returned, stmt_step, stmt_of, block_of, block_at, routes_to, end_of, max_statements, dialogue}
 use Rattle.cfg_code.specs.declared.instr.Instr.{Instr}
 use Rattle.cfg_code.specs.declared.instr.Instr.TheVariants.{Push, Store, Write, WriteItem, Enter, Forget, Count, PassUnless, Pass, Case, Begin, Round, Again, Finish, Break, Return, Exit, Drop, EndBlock}
 use Rattle.cfg_code.specs.declared.code.Loaded.{Loaded}
 use Rattle.cfg_code.specs.declared.machine.Frame.{Frame}
 use Rattle.cfg_code.specs.declared.machine.Frame.TheVariants.{Loop, Back}
 use Rattle.cfg_code.specs.Code.{Text, joined, expansion_code, expr_code, set_text, if_text, while_text, case_text, cases_text, switch_text, return_text, stmt_text, stmt_code, list_code, block_code}
-use Rattle.cfg_code.specs.Machine.{Configuration, Next, go, moved, leave, breaking, repeating, casing, counting, act, entry, begun}
+use Rattle.cfg_code.specs.Machine.{go, leave, breaking, repeating, casing, act, entry, begun}
 use Rattle.cfg_code.specs.Follows.{HasAt, Stands, Behaves}
 use Rattle.cfg_code.proofs.Places.{has_front, has_back, run_at, After, by_act, at_place, count_from, count_right, Each, Right}
 use Rattle.cfg_code.proofs.Parts.{expansion_right}
@@ -244,17 +243,20 @@ module _ (loaded : Loaded) where
         let jump : p + 1 + length b + (1 + 1) ≡ p + length t + 1 = omega (arith, size) in
         let pass : p + (1 + (length b + 1)) ≡ p + length t = omega (arith, size) in
         let falls : (s : State) → Behaves loaded (run_at (p + 1) stack frames d s) (onward (e ∷ es) default ways s) =
-              λ s. list_right c.1 e.1 each.0.1 (p + 1) stack frames s _ (has_front code (p + 1) b _ front.1) (record {
-                on = λ s. by_act loaded (run_at (p + 1 + length b) stack frames d s) (Pass 1) _ at_go (at_place loaded [] _ _ stack frames d s _ jump (more.falls s));
-                out = w.out;
-                back = w.back }) in
+        λ s. list_right c.1 e.1 each.0.1 (p + 1) stack frames s _ (has_front code (p + 1) b _ front.1) (record {
+          on = λ s. by_act loaded (run_at (p + 1 + length b) stack frames d s) (Pass 1) _ at_go (at_place loaded [] _ _ stack frames d s _ jump (more.falls s));
+          out = w.out;
+          back = w.back;
+        }) in
         record {
           tests = λ (v : Val) (s : State). by_act loaded (run_at p (v ∷ stack) frames d s) (Case c.0 (length b + 1)) _ front.0
-            (subst (λ l. After loaded (casing l (length b + 1) (run_at p (v ∷ stack) frames d s)) (chosen v (e ∷ es) default ways s)) (sym each.0.0)
-            (elim (is_label v e.0) as (λ y. After loaded (if y then go 1 (run_at p stack frames d s) else go (1 + (length b + 1)) (run_at p (v ∷ stack) frames d s)) ((if y then onward (e ∷ es) default ways else chosen v es default ways) s)) [
-              true ↦ falls s
-            | false ↦ at_place loaded [] _ _ (v ∷ stack) frames d s _ pass (more.tests v s) ]));
-          falls = falls }
+              (subst (λ l. After loaded (casing l (length b + 1) (run_at p (v ∷ stack) frames d s)) (chosen v (e ∷ es) default ways s)) (sym each.0.0)
+              (elim (is_label v e.0) as (λ y. After loaded (if y then go 1 (run_at p stack frames d s) else go (1 + (length b + 1)) (run_at p (v ∷ stack) frames d s)) ((if y then onward (e ∷ es) default ways else chosen v es default ways) s)) [
+                | true ↦ falls s
+                | false ↦ at_place loaded [] _ _ (v ∷ stack) frames d s _ pass (more.tests v s)
+              ]));
+          falls = falls;
+        }
 
     switch_right : (c : Text) (v : Valued) → Right loaded d [] c v → (cs : List (Val × List Text)) (es : List (Val × List Made)) → Each Cased cs es → (last : Text) (default : List Made) → RightMade last (in_order default) →
         RightMade (switch_text c (cases_text cs) last) (λ ways. counted (v (λ v. chosen v es default (record ways { out = ways.on }))))
@@ -274,13 +276,14 @@ module _ (loaded : Loaded) where
         let ends_here : q + 1 ≡ p + length (switch_text c ts last) = omega (arith, whole) in
         let ends_too : exit ≡ p + length (switch_text c ts last) = omega (arith, whole) in
         let w' : RightWays d q stack F (record ways { out = ways.on }) = record {
-              on = λ s. by_act loaded (run_at q stack F d s) Finish _ h3.0 (at_place loaded [] _ _ stack frames d s _ ends_here (w.on s));
-              out = λ s q old. at_place loaded [] _ _ stack frames d s _ ends_too (w.on s);
-              back = λ n s q old. w.back n s q old } in
+          on = λ s. by_act loaded (run_at q stack F d s) Finish _ h3.0 (at_place loaded [] _ _ stack frames d s _ ends_here (w.on s));
+          out = λ s q old. at_place loaded [] _ _ stack frames d s _ ends_too (w.on s);
+          back = λ n s q old. w.back n s q old;
+        } in
         let enters = cases_right cs es each last default (Finish ∷ []) rd p2 stack F (record ways { out = ways.on }) h w' in
         count_right loaded d p stack frames _ has.0 (λ s1.
-          by_act loaded (run_at (p + 1) stack frames d s1) (Begin n) _ has.1.0
-            (rc (p + 1 + 1) stack F s1 _ (has_front code _ c _ has.1.1) (λ v s2. enters.tests v s2))) s
+        by_act loaded (run_at (p + 1) stack frames d s1) (Begin n) _ has.1.0
+        (rc (p + 1 + 1) stack F s1 _ (has_front code _ c _ has.1.1) (λ v s2. enters.tests v s2))) s
 
     module _ (script : Script) (stands : Stands loaded script) (route : Routes) (routes : RightRoute loaded d script stands.patterns route) where
       value_right : (e : Expr) → RightMeant loaded d (expr_code e) (expr_of script route e)

@@ -1,5 +1,5 @@
 -- The instructions that stand for a tree. The text of a tree is made of the texts of its parts.
-use Rattle.std.specs.Prelude.{ℕ, pos, true, false, ◌+◌, List, [], ◌∷◌, ◌++◌, length, map, Option, Some, None}
+use Rattle.std.specs.Prelude.{pos, true, false, ◌+◌, List, [], ◌∷◌, ◌++◌, length, map, Option, Some, None}
 use Rattle.pv_values.specs.declared.value.Val.{Val}
 use Rattle.pv_values.specs.declared.value.Val.TheVariants as val
 use Rattle.pv_values.specs.declared.operator.BinOp.{BinOp}

@@ -1,7 +1,6 @@
 // Code, and a script as code.
 
-ghost use Rattle.std.specs.Prelude.{◌≡◌, slice_get, slice_index_or};
-ghost use Rattle.std.specs.Option.{option_copied};
+ghost use Rattle.std.specs.Prelude.{◌≡◌, slice_index_or};
 
 use crate::instr::Instr;
 use cfg_tree::Parameters;
@@ -39,11 +38,11 @@ impl Code {
         Code { instrs, entries }
     }
 
-    /// The instruction at a place.
-    pub fn instr(&self, place: usize) -> Option<&Instr>
-        ensures { option_copied result ≡ slice_get self.now.instrs place }
+    /// The instructions, by their places.
+    pub fn instrs(&self) -> &[Instr]
+        ensures { result.now ≡ self.now.instrs }
     {
-        self.instrs.get(place)
+        self.instrs.as_slice()
     }
 
     /// The place where the block of this number begins. A block that isn't there is the empty one at

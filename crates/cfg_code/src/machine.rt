@@ -12,7 +12,10 @@ pub enum Frame {
         exit: usize,
     },
     /// The place where the block goes on, and how deep calls may be nested there.
-    Back { place: usize, deeper: u32 },
+    Back {
+        place: usize,
+        deeper: u32,
+    },
 }
 
 /// What a run is told next.

@@ -10,7 +10,7 @@ use Rattle.cfg_code.specs.declared.instr.Instr.{Instr}
 use Rattle.cfg_code.specs.declared.instr.Instr.TheVariants.{EndBlock}
 use Rattle.cfg_code.specs.Code.{block_code}
 use Rattle.cfg_code.specs.Follows.{HasAt}
-use Rattle.cfg_code.specs.Sound.{Shape, nothing, Leads, IsSound, AllSound, AreFine, Shaped}
+use Rattle.cfg_code.specs.Sound.{Shape, nothing, Leads, AllSound, AreFine, Shaped}
 use Rattle.cfg_compile.specs.Blocks.{StandsFor}
 
 get_longer : (code more : List Instr) (p : ℕ) (i : Instr) → slice_get code p ≡ Some i → slice_get (code ++ more) p ≡ Some i
@@ -67,20 +67,23 @@ laid_none = record { start = (refl, tt); count = refl; each = λ b h. absurd (om
 sound_more : EachSound → (code : List Instr) (entries : List ℕ) (x : List Stmt) → ((behind : List Shape) → SoundBefore code entries behind) → (behind : List Shape) → SoundBefore (code ++ block_code x) (entries ++ length code ∷ []) behind
 sound_more each code entries x sound behind =
     let B = each x behind in
-    let A = sound B.0 in
-    (A.0, fine_append code (block_code x) A.0 B.0 behind A.1 B.1, λ b. ⊎_elim
-      (λ lt. subst (λ n. Leads A.0 n nothing) (sym (get_or_append_left entries (length code ∷ []) 0 b lt)) (A.2 b))
-      (λ le. ⊎_elim
-        (λ lt.
-        let last : b ≡ length entries = omega (arith, le, lt) in
-        let at : get_or (entries ++ length code ∷ []) b 0 ≡ length code = ap (λ k. get_or (entries ++ length code ∷ []) k 0) last ∙ get_or-append_seam entries (length code) [] 0 in
-        passed code A.0 B.0 _ A.1 at ∙ B.2)
-        (λ more.
-        let past : length (entries ++ length code ∷ []) ≤ b = omega (arith, more, length-append entries (length code ∷ [])) in
-        let same : get_or (entries ++ length code ∷ []) b 0 ≡ get_or entries b 0 = get_or_past (entries ++ length code ∷ []) b 0 past ∙ sym (get_or_past entries b 0 le) in
-        subst (λ n. Leads A.0 n nothing) (sym same) (A.2 b))
-        (cases_lt b (length entries + 1)))
-      (cases_lt b (length entries)))
+    let A = sound B.0 in (
+      A.0,
+      fine_append code (block_code x) A.0 B.0 behind A.1 B.1,
+      λ b. ⊎_elim
+          (λ lt. subst (λ n. Leads A.0 n nothing) (sym (get_or_append_left entries (length code ∷ []) 0 b lt)) (A.2 b))
+          (λ le. ⊎_elim
+          (λ lt.
+          let last : b ≡ length entries = omega (arith, le, lt) in
+          let at : get_or (entries ++ length code ∷ []) b 0 ≡ length code = ap (λ k. get_or (entries ++ length code ∷ []) k 0) last ∙ get_or-append_seam entries (length code) [] 0 in
+          passed code A.0 B.0 _ A.1 at ∙ B.2)
+          (λ more.
+          let past : length (entries ++ length code ∷ []) ≤ b = omega (arith, more, length-append entries (length code ∷ [])) in
+          let same : get_or (entries ++ length code ∷ []) b 0 ≡ get_or entries b 0 = get_or_past (entries ++ length code ∷ []) b 0 past ∙ sym (get_or_past entries b 0 le) in
+          subst (λ n. Leads A.0 n nothing) (sym same) (A.2 b))
+          (cases_lt b (length entries + 1)))
+          (cases_lt b (length entries)),
+    )
 
 laid_more : EachSound → (code : List Instr) (entries : List ℕ) (blocks : List (List Stmt)) (x : List Stmt) → Laid code entries blocks → Laid (code ++ block_code x) (entries ++ length code ∷ []) (blocks ++ x ∷ [])
 laid_more sound code entries blocks x laid = record {

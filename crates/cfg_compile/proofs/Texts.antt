@@ -68,5 +68,5 @@ pub switch_whole : (s : Stmt) (e : Expr) (cases : List (Val × List Stmt)) (defa
 switch_whole s e cases default r t ts l i is h a past b c =
     let all : take i cases ≡ cases = take_all i cases past in
     let same : switch_text t ts l ≡ stmt_code s =
-          ap (λ x. switch_text x ts l) a ∙ ap (λ x. switch_text (expr_code e AsValue) x l) (b ∙ ap cases_code all) ∙ ap (λ x. switch_text (expr_code e AsValue) (cases_code cases) x) c ∙ sym (switch_code e cases default) ∙ ap stmt_code (sym is) in
+    ap (λ x. switch_text x ts l) a ∙ ap (λ x. switch_text (expr_code e AsValue) x l) (b ∙ ap cases_code all) ∙ ap (λ x. switch_text (expr_code e AsValue) (cases_code cases) x) c ∙ sym (switch_code e cases default) ∙ ap stmt_code (sym is) in
     subst (λ x. IfOk r (λ text. text ≡ x)) same h

@@ -1,5 +1,5 @@
 -- What an expression is read for.
-use Rattle.cfg_tree.specs.Meaning.{AsValue, AsTruth} 
+use Rattle.cfg_tree.specs.Meaning.{AsValue, AsTruth}
 use Rattle.cfg_tree.specs.Meaning as meaning
 use Rattle.cfg_compile.specs.declared.expr.Wanted.{Wanted}
 use Rattle.cfg_compile.specs.declared.expr.Wanted.TheVariants.{Value, Truth}

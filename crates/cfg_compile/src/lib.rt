@@ -9,6 +9,5 @@ mod text;
 
 pub use block::compile;
 
-
 #[cfg(test)]
 mod tests;

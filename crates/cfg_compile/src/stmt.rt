@@ -73,11 +73,7 @@ pub fn list_text(alloc: Global, block: &[Stmt]) -> Result<Items<Instr>, NoMemory
 }
 
 /// An assignment of a value: a key comes before it.
-fn assignment(
-    alloc: Global,
-    target: &Target,
-    value: Items<Instr>,
-) -> Result<Items<Instr>, NoMemory>
+fn assignment(alloc: Global, target: &Target, value: Items<Instr>) -> Result<Items<Instr>, NoMemory>
     ensures { IfOk result (λ text. text ≡ set_text target.now value) }
 {
     match target {
@@ -113,11 +109,7 @@ fn choice(
     Ok(text)
 }
 
-fn repeated(
-    alloc: Global,
-    test: Items<Instr>,
-    body: Items<Instr>,
-) -> Result<Items<Instr>, NoMemory>
+fn repeated(alloc: Global, test: Items<Instr>, body: Items<Instr>) -> Result<Items<Instr>, NoMemory>
     ensures { IfOk result (λ text. text ≡ while_text test body) }
 {
     let skip = offset(body.len(), 2)?;
@@ -133,11 +125,7 @@ fn repeated(
     Ok(text)
 }
 
-fn one_case(
-    alloc: Global,
-    label: &Val,
-    body: Items<Instr>,
-) -> Result<Items<Instr>, NoMemory>
+fn one_case(alloc: Global, label: &Val, body: Items<Instr>) -> Result<Items<Instr>, NoMemory>
     ensures { IfOk result (λ text. text ≡ case_text label.now body) }
 {
     let skip = offset(body.len(), 1)?;

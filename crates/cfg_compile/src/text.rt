@@ -65,11 +65,7 @@ pub fn between(
 }
 
 /// A call, which is counted, and then its code.
-pub fn called(
-    alloc: Global,
-    call: Items<Instr>,
-    wanted: Wanted,
-) -> Result<Items<Instr>, NoMemory>
+pub fn called(alloc: Global, call: Items<Instr>, wanted: Wanted) -> Result<Items<Instr>, NoMemory>
     ensures { IfOk result (λ text. text ≡ called_text call (as_meant wanted)) }
 {
     let code = match wanted {
