@@ -1,0 +1,5 @@
+pub mod Places
+pub mod Parts
+pub mod Exprs
+pub mod Stmts
+pub mod Shapes

@@ -1,0 +1,5 @@
+pub mod Flat
+pub mod Code
+pub mod Machine
+pub mod Follows
+pub mod Sound

@@ -1,0 +1,130 @@
+-- The code of blocks is laid one after another.
+use Rattle.std.proofs.Common.{◌≡◌, ℕ, suc, ◌+◌, ◌<◌, ◌≤◌, List, [], ◌∷◌, ◌++◌, length, get_or, take, Some, refl, sym, ap, ◌∙◌, subst, ⊎_elim, arith, append_assoc, length-append}
+use Rattle.std.specs.Prelude.{slice_get}
+use Rattle.std.proofs.Math.Seq.{get_or-append_seam}
+use Rattle.std.proofs.lemmas.Bool.{cases_lt}
+use Rattle.std.proofs.lemmas.List.{take_more, get_or_append_left, get_or_past}
+use Rattle.std.proofs.lemmas.Option.{slice_get-get_or, slice_get_within, get_or_from_slice_get}
+use Rattle.cfg_tree.specs.declared.script.Stmt.{Stmt}
+use Rattle.cfg_code.specs.declared.instr.Instr.{Instr}
+use Rattle.cfg_code.specs.declared.instr.Instr.TheVariants.{EndBlock}
+use Rattle.cfg_code.specs.Code.{block_code}
+use Rattle.cfg_code.specs.Follows.{HasAt}
+use Rattle.cfg_code.specs.Sound.{Shape, nothing, Leads, AllSound, AreFine, Shaped}
+use Rattle.cfg_compile.specs.Blocks.{StandsFor}
+
+get_longer : (code more : List Instr) (p : ℕ) (i : Instr) → slice_get code p ≡ Some i → slice_get (code ++ more) p ≡ Some i
+get_longer code more p i h =
+    let w = slice_get_within code p i h in
+    let w' : p < length (code ++ more) = omega (arith, length-append code more) in
+    slice_get-get_or (code ++ more) p i w' ∙ ap Some (get_or_append_left code more i p w ∙ get_or_from_slice_get code p i i h)
+
+has_longer : (code more : List Instr) (p : ℕ) (is : List Instr) → HasAt code p is → HasAt (code ++ more) p is
+has_longer code more p [] h = tt
+has_longer code more p (i ∷ is) h = (get_longer code more p i h.0, has_longer code more (p + 1) is h.1)
+
+has_all : (is pre : List Instr) → HasAt (pre ++ is) (length pre) is
+has_all [] pre = tt
+has_all (i ∷ is) pre =
+    let within : length pre < length (pre ++ i ∷ is) = omega (arith, length-append pre (i ∷ is)) in
+    let here = slice_get-get_or (pre ++ i ∷ is) (length pre) i within ∙ ap Some (get_or-append_seam pre i is i) in
+    let n : length (pre ++ i ∷ []) ≡ length pre + 1 = omega (arith, length-append pre (i ∷ [])) in
+    let rest = has_all is (pre ++ i ∷ []) in
+    let rest' = subst (λ l. HasAt l (length (pre ++ i ∷ [])) is) (append_assoc pre (i ∷ []) is) rest in
+    (here, subst (λ m. HasAt (pre ++ i ∷ is) m is) n rest')
+
+fine_append : (a b : List Instr) (all mid behind : List Shape) → AreFine a all mid → AreFine b mid behind → AreFine (a ++ b) all behind
+fine_append [] b all mid behind e h = subst (λ x. AreFine b x behind) (sym e) h
+fine_append (i ∷ a) b [] mid behind e h = absurd e
+fine_append (i ∷ a) b (s ∷ all) mid behind e h = (e.0, fine_append a b all mid behind e.1 h)
+
+-- behind instructions
+passed : (t : List Instr) (all behind : List Shape) (k : ℕ) → AreFine t all behind → k ≡ length t → slice_get all k ≡ slice_get behind 0
+passed [] all behind k e is = ap (λ x. slice_get x k) e ∙ ap (λ i. slice_get behind i) is
+passed (i ∷ t) [] behind k e is = absurd e
+passed (i ∷ t) (s ∷ all) behind k e is =
+    let more : k ≡ suc (length t) = omega (arith, is) in
+    ap (λ i. slice_get (s ∷ all) i) more ∙ passed t all behind (length t) e.1 refl
+
+-- the code so far is sound, whatever comes behind it
+abbrev pub SoundBefore : List Instr → List ℕ → List Shape → Type 0
+SoundBefore code entries behind = (all : List Shape) × AreFine code all behind × ((b : ℕ) → Leads all (get_or entries b 0) nothing)
+
+-- the code of each block is sound
+abbrev pub EachSound : Type 0
+EachSound = (block : List Stmt) (behind : List Shape) → Shaped (block_code block) nothing behind
+
+-- these blocks stand where they begin, and are sound
+pub record Laid (code : List Instr) (entries : List ℕ) (blocks : List (List Stmt)) : Type 0 where
+  pub start : HasAt code 0 (EndBlock ∷ [])
+  pub count : length entries ≡ length blocks
+  pub each : (b : ℕ) → b < length blocks → HasAt code (get_or entries b 0) (block_code (get_or blocks b []))
+  pub sound : (behind : List Shape) → SoundBefore code entries behind
+
+pub laid_none : Laid (EndBlock ∷ []) [] []
+laid_none = record { start = (refl, tt); count = refl; each = λ b h. absurd (omega arith); sound = λ behind. (nothing ∷ behind, (refl, refl), λ b. refl) }
+
+sound_more : EachSound → (code : List Instr) (entries : List ℕ) (x : List Stmt) → ((behind : List Shape) → SoundBefore code entries behind) → (behind : List Shape) → SoundBefore (code ++ block_code x) (entries ++ length code ∷ []) behind
+sound_more each code entries x sound behind =
+    let B = each x behind in
+    let A = sound B.0 in (
+      A.0,
+      fine_append code (block_code x) A.0 B.0 behind A.1 B.1,
+      λ b. ⊎_elim
+          (λ lt. subst (λ n. Leads A.0 n nothing) (sym (get_or_append_left entries (length code ∷ []) 0 b lt)) (A.2 b))
+          (λ le. ⊎_elim
+          (λ lt.
+          let last : b ≡ length entries = omega (arith, le, lt) in
+          let at : get_or (entries ++ length code ∷ []) b 0 ≡ length code = ap (λ k. get_or (entries ++ length code ∷ []) k 0) last ∙ get_or-append_seam entries (length code) [] 0 in
+          passed code A.0 B.0 _ A.1 at ∙ B.2)
+          (λ more.
+          let past : length (entries ++ length code ∷ []) ≤ b = omega (arith, more, length-append entries (length code ∷ [])) in
+          let same : get_or (entries ++ length code ∷ []) b 0 ≡ get_or entries b 0 = get_or_past (entries ++ length code ∷ []) b 0 past ∙ sym (get_or_past entries b 0 le) in
+          subst (λ n. Leads A.0 n nothing) (sym same) (A.2 b))
+          (cases_lt b (length entries + 1)))
+          (cases_lt b (length entries)),
+    )
+
+laid_more : EachSound → (code : List Instr) (entries : List ℕ) (blocks : List (List Stmt)) (x : List Stmt) → Laid code entries blocks → Laid (code ++ block_code x) (entries ++ length code ∷ []) (blocks ++ x ∷ [])
+laid_more sound code entries blocks x laid = record {
+  start = has_longer code (block_code x) 0 (EndBlock ∷ []) laid.start;
+  count = omega (arith, length-append entries (length code ∷ []), length-append blocks (x ∷ []), laid.count);
+  each = λ b h. ⊎_elim
+      (λ lt.
+      let lt' : b < length entries = omega (arith, lt, laid.count) in
+      let e = get_or_append_left entries (length code ∷ []) 0 b lt' in
+      let f = get_or_append_left blocks (x ∷ []) [] b lt in
+      let old = has_longer code (block_code x) _ _ (laid.each b lt) in
+      subst (λ n. HasAt (code ++ block_code x) n (block_code (get_or (blocks ++ x ∷ []) b []))) (sym e)
+      (subst (λ l. HasAt (code ++ block_code x) (get_or entries b 0) (block_code l)) (sym f) old))
+      (λ le.
+      let last : b ≡ length blocks = omega (arith, le, h, length-append blocks (x ∷ [])) in
+      let last' : b ≡ length entries = omega (arith, last, laid.count) in
+      let e : get_or (entries ++ length code ∷ []) b 0 ≡ length code = ap (λ k. get_or (entries ++ length code ∷ []) k 0) last' ∙ get_or-append_seam entries (length code) [] 0 in
+      let f : get_or (blocks ++ x ∷ []) b [] ≡ x = ap (λ k. get_or (blocks ++ x ∷ []) k []) last ∙ get_or-append_seam blocks x [] [] in
+      subst (λ n. HasAt (code ++ block_code x) n (block_code (get_or (blocks ++ x ∷ []) b []))) (sym e)
+      (subst (λ l. HasAt (code ++ block_code x) (length code) (block_code l)) (sym f) (has_all (block_code x) code)))
+      (cases_lt b (length blocks));
+  sound = sound_more sound code entries x laid.sound;
+}
+
+pub laid_all : (code : List Instr) (entries : List ℕ) (blocks : List (List Stmt)) → Laid code entries blocks → StandsFor code entries blocks
+laid_all code entries blocks laid b = ⊎_elim
+    (λ lt. laid.each b lt)
+    (λ le.
+    let le' : length entries ≤ b = omega (arith, le, laid.count) in
+    let e = get_or_past entries b 0 le' in
+    let f = get_or_past blocks b [] le in
+    subst (λ n. HasAt code n (block_code (get_or blocks b []))) (sym e) (subst (λ l. HasAt code 0 (block_code l)) (sym f) laid.start))
+    (cases_lt b (length blocks))
+
+pub laid_sound : (code : List Instr) (entries : List ℕ) (blocks : List (List Stmt)) → Laid code entries blocks → AllSound code entries
+laid_sound code entries blocks laid =
+    let A = laid.sound [] in
+    record { shapes = ∣ (A.0, record { fine = A.1; blocks = A.2 }) ∣₁ }
+
+pub laid_on : EachSound → (code code' text : List Instr) (entries entries' : List ℕ) (at : ℕ) (blocks : List (List Stmt)) (i : ℕ) (x : List Stmt) → i < length blocks → x ≡ get_or blocks i x →
+    at ≡ length code → entries' ≡ entries ++ at ∷ [] → text ≡ block_code x → code' ≡ code ++ text → Laid code entries (take i blocks) → Laid code' entries' (take (i + 1) blocks)
+laid_on sound code code' text entries entries' at blocks i x h is e f t g laid =
+    let next : take (i + 1) blocks ≡ take i blocks ++ x ∷ [] = take_more blocks i x h ∙ ap (λ x. take i blocks ++ x ∷ []) (sym is) in
+    rw (next, g, t, f, e) (laid_more sound code entries (take i blocks) x laid)

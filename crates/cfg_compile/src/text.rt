@@ -1,0 +1,116 @@
+// Texts of instructions, made of the texts of parts.
+
+ghost use Rattle.std.specs.Prelude.{◌≡◌, ◌+◌, ◌++◌, ◌∷◌, [], IfOk};
+ghost use Rattle.cfg_code.specs.Code.{appended, argument_text, called_text, link_text, and_text, or_text};
+ghost use Rattle.cfg_compile.specs.Wanted.{as_meant};
+
+use crate::expr::Wanted;
+use cfg_code::Instr;
+use pv_values::BinOp;
+use sqlite_items::Items;
+use std::alloc::{AllocError as NoMemory, Global};
+
+pub fn one(alloc: Global, instr: Instr) -> Result<Items<Instr>, NoMemory>
+    ensures { IfOk result (λ text. text ≡ instr ∷ []) }
+{
+    let mut text = Items::new(alloc);
+    text.push(instr)?;
+    Ok(text)
+}
+
+pub fn two(alloc: Global, first: Instr, second: Instr) -> Result<Items<Instr>, NoMemory>
+    ensures { IfOk result (λ text. text ≡ first ∷ second ∷ []) }
+{
+    let mut text = Items::new(alloc);
+    text.push(first)?;
+    text.push(second)?;
+    Ok(text)
+}
+
+/// A text, and one instruction behind it.
+pub fn ended(text: Items<Instr>, last: Instr) -> Result<Items<Instr>, NoMemory>
+    ensures { IfOk result (λ whole. whole ≡ text ++ last ∷ []) }
+{
+    let mut whole = text;
+    whole.push(last)?;
+    Ok(whole)
+}
+
+/// Two texts, one behind the other.
+pub fn both(first: Items<Instr>, second: Items<Instr>) -> Result<Items<Instr>, NoMemory>
+    ensures { IfOk result (λ text. text ≡ first ++ second) }
+{
+    let mut text = first;
+    text.append(second)?;
+    Ok(text)
+}
+
+/// One instruction, and a text behind it.
+pub fn begun(alloc: Global, first: Instr, text: Items<Instr>) -> Result<Items<Instr>, NoMemory>
+    ensures { IfOk result (λ whole. whole ≡ first ∷ text) }
+{
+    both(one(alloc, first)?, text)
+}
+
+/// A text between two instructions.
+pub fn between(
+    alloc: Global,
+    first: Instr,
+    text: Items<Instr>,
+    last: Instr,
+) -> Result<Items<Instr>, NoMemory>
+    ensures { IfOk result (λ whole. whole ≡ first ∷ (text ++ last ∷ [])) }
+{
+    begun(alloc, first, ended(text, last)?)
+}
+
+/// A call, which is counted, and then its code.
+pub fn called(alloc: Global, call: Items<Instr>, wanted: Wanted) -> Result<Items<Instr>, NoMemory>
+    ensures { IfOk result (λ text. text ≡ called_text call (as_meant wanted)) }
+{
+    let code = match wanted {
+        Wanted::Value => Instr::LastCode,
+        Wanted::Truth => Instr::Success,
+    };
+    let last = two(alloc, Instr::Settle, code)?;
+    begun(alloc, Instr::Count, both(call, last)?)
+}
+
+/// A text, and an operand that is linked to its value.
+pub fn linked(
+    first: Items<Instr>,
+    op: BinOp,
+    operand: Items<Instr>,
+) -> Result<Items<Instr>, NoMemory>
+    ensures { IfOk result (λ text. text ≡ first ++ link_text op operand) }
+{
+    let link = ended(operand, Instr::Binary(op))?;
+    both(first, link)
+}
+
+/// An operand of `&&`, behind the ones before it.
+pub fn and_operand(alloc: Global, operand: Items<Instr>) -> Result<Items<Instr>, NoMemory>
+    ensures { IfOk result (λ text. text ≡ and_text operand) }
+{
+    let skip = offset(operand.len(), 1)?;
+    between(alloc, Instr::AndThen(skip), operand, Instr::Truth)
+}
+
+/// An operand of `||`, behind the ones before it.
+pub fn or_operand(alloc: Global, operand: Items<Instr>) -> Result<Items<Instr>, NoMemory>
+    ensures { IfOk result (λ text. text ≡ or_text operand) }
+{
+    let skip = offset(operand.len(), 1)?;
+    between(alloc, Instr::OrElse(skip), operand, Instr::Truth)
+}
+
+/// A length and some more, as a jump has it. A jump that doesn't fit its number counts as want of
+/// memory: the code would have 2 ^ 31 instructions.
+pub fn offset(length: usize, more: u32) -> Result<u32, NoMemory>
+    ensures { IfOk result (λ n. n ≡ length + more) }
+{
+    if length >= 0x8000_0000 || more >= 0x8000_0000 {
+        return Err(NoMemory);
+    }
+    Ok(length as u32 + more)
+}
