@@ -1,0 +1,5 @@
+mod Runs
+mod Seeks
+mod Closings
+mod Ends
+mod Quotes
