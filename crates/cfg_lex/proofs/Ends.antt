@@ -4,15 +4,15 @@ use Rattle.std.proofs.lemmas.List.{drop_more, drop_all, take_rest}
 use Rattle.cfg_lex.specs.Comments.{begins_end, before_end}
 use Rattle.cfg_lex.proofs.Seeks.{seek, seek_on, seek_here, seek_never}
 
-found : (a : ℕ) (text : List ℕ) → begins_end (a ∷ text) ≡ true → before_end (a ∷ text) ≡ Some 0
+pub found : (a : ℕ) (text : List ℕ) → begins_end (a ∷ text) ≡ true → before_end (a ∷ text) ≡ Some 0
 unfolding before_end
 found a text h = rw h refl
 
-more : (a : ℕ) (text : List ℕ) → begins_end (a ∷ text) ≡ false → before_end (a ∷ text) ≡ option_map (λ n. 1 + n) (before_end text)
+pub more : (a : ℕ) (text : List ℕ) → begins_end (a ∷ text) ≡ false → before_end (a ∷ text) ≡ option_map (λ n. 1 + n) (before_end text)
 unfolding before_end
 more a text h = rw h refl
 
-nowhere : before_end [] ≡ None
+pub nowhere : before_end [] ≡ None
 unfolding before_end
 nowhere = refl
 

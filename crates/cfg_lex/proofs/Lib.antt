@@ -3,3 +3,9 @@ mod Seeks
 mod Closings
 mod Ends
 mod Quotes
+mod RunLaw
+mod EndLaw
+mod QuoteLaw
+mod PictureLaw
+mod Bytewise
+mod MarkLaw

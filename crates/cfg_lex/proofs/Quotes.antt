@@ -7,22 +7,22 @@ use Rattle.cfg_lex.proofs.Seeks.{seek, seek_on, seek_here, seek_never}
 
 -- ---- the quote
 
-closes : (q b : ℕ) (text : List ℕ) → (b == q) ≡ true → before_quote q (b ∷ text) ≡ Some 0
+pub closes : (q b : ℕ) (text : List ℕ) → (b == q) ≡ true → before_quote q (b ∷ text) ≡ Some 0
 unfolding before_quote
 closes q b [] h = rw h refl
 closes q b (c ∷ text) h = rw h refl
 
-pair : (q : ℕ) (text : List ℕ) → (92 == q) ≡ false → before_quote q (92 ∷ text) ≡ option_map (λ n. 2 + n) (before_quote q (drop 1 text))
+pub pair : (q : ℕ) (text : List ℕ) → (92 == q) ≡ false → before_quote q (92 ∷ text) ≡ option_map (λ n. 2 + n) (before_quote q (drop 1 text))
 unfolding before_quote
 pair q [] h = rw h refl
 pair q (c ∷ text) h = rw h refl
 
-goes : (q b : ℕ) (text : List ℕ) → (b == q) ≡ false → (b == 92) ≡ false → before_quote q (b ∷ text) ≡ option_map (λ n. 1 + n) (before_quote q text)
+pub goes : (q b : ℕ) (text : List ℕ) → (b == q) ≡ false → (b == 92) ≡ false → before_quote q (b ∷ text) ≡ option_map (λ n. 1 + n) (before_quote q text)
 unfolding before_quote
 goes q b [] h k = rw h refl
 goes q b (c ∷ text) h k = rw (h, k) refl
 
-nowhere : (q : ℕ) → before_quote q [] ≡ None
+pub nowhere : (q : ℕ) → before_quote q [] ≡ None
 unfolding before_quote
 nowhere q = refl
 
@@ -48,15 +48,15 @@ quote_never q text i le = seek_never (before_quote q) text i (let e = drop_all i
 
 -- ---- the bad escape
 
-bad : (b c : ℕ) (text : List ℕ) → is_bad b c ≡ true → bad_escape (b ∷ c ∷ text) ≡ Some 0
+pub bad : (b c : ℕ) (text : List ℕ) → is_bad b c ≡ true → bad_escape (b ∷ c ∷ text) ≡ Some 0
 unfolding bad_escape
 bad b c text h = rw h refl
 
-known : (b c : ℕ) (text : List ℕ) → is_bad b c ≡ false → (b == 92) ≡ true → bad_escape (b ∷ c ∷ text) ≡ option_map (λ n. 2 + n) (bad_escape text)
+pub known : (b c : ℕ) (text : List ℕ) → is_bad b c ≡ false → (b == 92) ≡ true → bad_escape (b ∷ c ∷ text) ≡ option_map (λ n. 2 + n) (bad_escape text)
 unfolding bad_escape
 known b c text h k = rw (h, k) refl
 
-plain : (b c : ℕ) (text : List ℕ) → is_bad b c ≡ false → (b == 92) ≡ false → bad_escape (b ∷ c ∷ text) ≡ option_map (λ n. 1 + n) (bad_escape (c ∷ text))
+pub plain : (b c : ℕ) (text : List ℕ) → is_bad b c ≡ false → (b == 92) ≡ false → bad_escape (b ∷ c ∷ text) ≡ option_map (λ n. 1 + n) (bad_escape (c ∷ text))
 unfolding bad_escape
 plain b c text h k = rw (h, k) refl
 
