@@ -78,10 +78,10 @@ pub record Ended (text : List ℕ) (k : ℕ) : Type 0 where
 only_star : NoEnd (42 ∷ [])
 only_star = λ front back e. let n = ap length e in omega (arith, n, length-append front (42 ∷ 47 ∷ back))
 
-head_is : (x y : ℕ) (xs ys : List ℕ) → x ∷ xs ≡ y ∷ ys → x ≡ y
+pub head_is : (x y : ℕ) (xs ys : List ℕ) → x ∷ xs ≡ y ∷ ys → x ≡ y
 head_is x y xs ys e = cc
 
-tail_is : (x y : ℕ) (xs ys : List ℕ) → x ∷ xs ≡ y ∷ ys → xs ≡ ys
+pub tail_is : (x y : ℕ) (xs ys : List ℕ) → x ∷ xs ≡ y ∷ ys → xs ≡ ys
 tail_is x y xs ys e = cc
 
 -- a star, and a slash behind it

@@ -9,3 +9,10 @@ mod QuoteLaw
 mod PictureLaw
 mod Bytewise
 mod MarkLaw
+mod ReadLaw
+mod GapLaw
+mod WordLaw
+mod StringLaw
+mod VariableLaw
+mod ListenLaw
+mod OrdinaryLaw
