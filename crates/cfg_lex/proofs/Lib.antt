@@ -16,3 +16,6 @@ mod StringLaw
 mod VariableLaw
 mod ListenLaw
 mod OrdinaryLaw
+mod FoundLaw
+mod Walk
+mod Reading
