@@ -35,7 +35,7 @@ hash_reads fresh text = elim (cases_Bool (is_no_comment fresh text)) [
       let n : suc (before 10 text) ≡ 1 + before 10 text = omega arith in
       let P : ℕ → Type 0 = λ k. IsGap fresh (take k (35 ∷ text)) (drop k (35 ∷ text)) in
       let same : is_no_comment fresh (take (before 10 text) text ++ drop (before 10 text) text) ≡ false =
-        ap (λ (xs : List ℕ). is_no_comment fresh xs) (take-append-drop (before 10 text) text) ∙ f in
+      ap (λ (xs : List ℕ). is_no_comment fresh xs) (take-append-drop (before 10 text) text) ∙ f in
       rw f (subst P n (hash fresh _ _ (line_taken text) same))
 ]
 
@@ -56,12 +56,12 @@ comment_reads fresh text (Some k) h =
     let r = end_taken text k h in
     let w = 47 ∷ 42 ∷ r.w ++ 42 ∷ 47 ∷ [] in
     let whole : 47 ∷ 42 ∷ text ≡ w ++ r.rest =
-      ap (λ (xs : List ℕ). 47 ∷ 42 ∷ xs) (r.whole ∙ sym (append_assoc r.w (42 ∷ 47 ∷ []) r.rest)) in
+    ap (λ (xs : List ℕ). 47 ∷ 42 ∷ xs) (r.whole ∙ sym (append_assoc r.w (42 ∷ 47 ∷ []) r.rest)) in
     let len : length w ≡ k + 4 = omega (arith, r.len, length-append r.w (42 ∷ 47 ∷ [])) in
     let front : take (k + 4) (47 ∷ 42 ∷ text) ≡ w = ap (λ (xs : List ℕ). take (k + 4) xs) whole ∙ take_at w r.rest (k + 4) len in
     let back : drop (k + 4) (47 ∷ 42 ∷ text) ≡ r.rest = ap (λ (xs : List ℕ). drop (k + 4) xs) whole ∙ drop_at w r.rest (k + 4) len in
     subst (λ (xs : List ℕ). IsGap fresh xs (drop (k + 4) (47 ∷ 42 ∷ text))) (sym front)
-      (subst (λ (xs : List ℕ). IsGap fresh w xs) (sym back) (bracketed fresh r.w r.rest r.none))
+    (subst (λ (xs : List ℕ). IsGap fresh w xs) (sym back) (bracketed fresh r.w r.rest r.none))
 
 pub slash_reads : (fresh : Bool) (text : List ℕ) → Reads fresh (47 ∷ text) (slash_at text)
 unfolding slash_at lexeme_of
@@ -72,7 +72,7 @@ slash_reads fresh (b ∷ text) = elim (cases_eq b 47) [
       let n : suc (suc (before 10 text)) ≡ 2 + before 10 text = omega arith in
       let P : ℕ → Type 0 = λ k. IsGap fresh (take k (47 ∷ b ∷ text)) (drop k (47 ∷ b ∷ text)) in
       let gap : IsGap fresh (47 ∷ b ∷ take (before 10 text) text) (drop (before 10 text) text) =
-        subst (λ (m : ℕ). IsGap fresh (47 ∷ m ∷ take (before 10 text) text) (drop (before 10 text) text)) (sym e) (slashes fresh _ _ (line_taken text)) in
+      subst (λ (m : ℕ). IsGap fresh (47 ∷ m ∷ take (before 10 text) text) (drop (before 10 text) text)) (sym e) (slashes fresh _ _ (line_taken text)) in
       rw t (subst P n gap)
   | inr ne ↦ elim (cases_eq b 42) [
     | inl e ↦

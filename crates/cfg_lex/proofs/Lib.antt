@@ -19,3 +19,4 @@ mod OrdinaryLaw
 mod FoundLaw
 mod Walk
 mod Reading
+mod PieceLaw

@@ -187,10 +187,10 @@ short_again fresh a rest m h whole = elim (cases_eq a 47) [
       let at_divide : P 47 = λ k w. divide_again fresh rest m k w in
       subst P (sym e) at_divide h whole
   | inr n ↦ record {
-      shape = shape.Mark m;
-      read = one_reads a m h n fresh rest ∙ read_short a rest m h whole;
-      lexeme = mark_text (a ∷ []) rest m 1;
-    }
+    shape = shape.Mark m;
+    read = one_reads a m h n fresh rest ∙ read_short a rest m h whole;
+    lexeme = mark_text (a ∷ []) rest m 1;
+  }
 ]
 
 pub token_again : (fresh : Bool) (w rest : List ℕ) (x : Lexeme) → IsOrdinary w rest x → ReadsToken fresh (w ++ rest) w x

@@ -36,7 +36,7 @@ quote_pair q text i lt n h =
     let two : drop 1 (drop (i + 1) text) ≡ drop (i + 2) text = drop-drop 1 (i + 1) text ∙ ap (λ m. drop m text) (omega arith) in
     let k : (92 == q) ≡ false = rw h at (ne_eqb _ q n) in
     seek_on (before_quote q) (before_quote q) text i 2
-      (rw (e, h) (pair q (drop (i + 1) text) k ∙ ap (λ (xs : List ℕ). option_map (λ m. 2 + m) (before_quote q xs)) two))
+    (rw (e, h) (pair q (drop (i + 1) text) k ∙ ap (λ (xs : List ℕ). option_map (λ m. 2 + m) (before_quote q xs)) two))
 
 pub quote_later : (q : ℕ) (text : List ℕ) (i : ℕ) → i < length text → get_or text i 0 ≢ q → get_or text i 0 ≢ 92 →
     seek (before_quote q) text (i + 1) ≡ seek (before_quote q) text i
@@ -83,7 +83,7 @@ bad_later text i lt h k =
     let f : (i + 1) + 1 ≡ i + 2 = omega arith in
     let one : get_or text (i + 1) 0 ∷ drop (i + 2) text ≡ drop (i + 1) text = sym (b ∙ ap (λ n. get_or text (i + 1) 0 ∷ drop n text) f) in
     seek_on bad_escape bad_escape text i 1
-      (ap bad_escape e ∙ plain _ _ _ h (ne_eqb _ _ k) ∙ ap (λ (xs : List ℕ). option_map (λ m. 1 + m) (bad_escape xs)) one)
+    (ap bad_escape e ∙ plain _ _ _ h (ne_eqb _ _ k) ∙ ap (λ (xs : List ℕ). option_map (λ m. 1 + m) (bad_escape xs)) one)
 
 short : (text : List ℕ) → length text ≤ 1 → bad_escape text ≡ None
 unfolding bad_escape
@@ -110,9 +110,9 @@ meant_next text front i byte len lt h so_far =
     let n : len ≡ (first_meant (drop i text)).1 = ap (λ (p : ℕ × ℕ). p.1) k in
     let step = meant_step (drop i text) (omega (arith, length-drop i text)) in
     let rest : drop (first_meant (drop i text)).1 (drop i text) ≡ drop (i + len) text =
-      drop-drop _ i text ∙ ap (λ m. drop (i + m) text) (sym n) in
+    drop-drop _ i text ∙ ap (λ m. drop (i + m) text) (sym n) in
     append_assoc front (byte ∷ []) _ ∙ ap (λ (xs : List ℕ). front ++ xs)
-      (ap (λ m. m ∷ unescaped (drop (i + len) text)) b ∙ ap (λ (xs : List ℕ). (first_meant (drop i text)).0 ∷ unescaped xs) (sym rest) ∙ sym step) ∙ so_far
+    (ap (λ m. m ∷ unescaped (drop (i + len) text)) b ∙ ap (λ (xs : List ℕ). (first_meant (drop i text)).0 ∷ unescaped xs) (sym rest) ∙ sym step) ∙ so_far
 
 pub meant_all : (text front : List ℕ) (i : ℕ) → length text ≤ i → front ++ unescaped (drop i text) ≡ unescaped text → front ≡ unescaped text
 unfolding unescaped

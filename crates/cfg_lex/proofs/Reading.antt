@@ -41,7 +41,7 @@ finds_here text i context r lt h lies =
     let e = read_here text i context r h in
     let there : LiesThere (begins_line text i) context (drop i text) = λ s n k. lies s n (sym e ∙ k) in
     subst (λ q. Finds (begins_line text i) context (drop i text) q) e
-      (found_finds (begins_line text i) context (drop i text) (omega (arith, length-drop i text)) there)
+    (found_finds (begins_line text i) context (drop i text) (omega (arith, length-drop i text)) there)
 
 no_token : (n m : ℕ) (s : Shape) → (let r : Result Found Wrong = Ok (found.Gap n) in r) ≡ Ok (found.Token s m) → ⊥
 no_token n m s e = cc
@@ -76,17 +76,17 @@ seen_token text i context next front items s n x seen lt h le is behind added =
     let len : length (take n (drop i text)) ≡ n = length-take-le n (drop i text) (omega (arith, length-drop i text, le)) in
     let same : lexeme_of (drop i text) s n ≡ x = let k = rw take_rest at is in sym k in
     let is_token : IsToken context (take n (drop i text)) (drop n (drop i text)) x =
-      subst (λ y. IsToken context (take n (drop i text)) (drop n (drop i text)) y) same t in
+    subst (λ y. IsToken context (take n (drop i text)) (drop n (drop i text)) y) same t in
     let at : ℕ → Token = λ k. record { lexeme = x; at = place i (i + k) } in
     let all : (ts : List Token) → items ++ ts ≡ front ++ at n ∷ ts = λ ts. ap (λ us. us ++ ts) added ∙ append_assoc front (at n ∷ []) ts in
     record {
       short = seen.short;
       within = omega (arith, le, lt);
       tokens = λ ts more. subst (λ us. HasTokens text 0 Plain us) (sym (all ts)) (seen.tokens (at n ∷ ts)
-        (subst (λ k. HasTokens text i context (at k ∷ ts)) len (token text i context _ _ x ts whole is_token
+          (subst (λ k. HasTokens text i context (at k ∷ ts)) len (token text i context _ _ x ts whole is_token
           (subst (λ c. HasTokens text (i + length (take n (drop i text))) c ts) behind (subst (λ k. HasTokens text (i + k) next ts) (sym len) more)))));
       fault = λ f more. seen.fault f (behind_token text i context _ _ x f whole is_token
-        (subst (λ c. FirstFault text (i + length (take n (drop i text))) c f) behind (subst (λ k. FirstFault text (i + k) next f) (sym len) more)));
+          (subst (λ c. FirstFault text (i + length (take n (drop i text))) c f) behind (subst (λ k. FirstFault text (i + k) next f) (sym len) more)));
     }
 
 pub seen_end : (text : List ℕ) (i : ℕ) (context : Context) (front : List Token) → Seen text i context front → length text ≤ i → TokensOf text front

@@ -48,7 +48,7 @@ closed_reads fresh q cs k None is h e =
     let back : drop (k + 2) (q ∷ cs) ≡ r.rest = ap (λ (xs : List ℕ). drop (k + 2) xs) whole ∙ drop_at (quoted q r.ps) r.rest (k + 2) len in
     let n : (k + 2) - 2 ≡ k = omega arith in
     let text : unescaped (take ((k + 2) - 2) cs) ≡ map meant r.ps =
-      ap (λ (m : ℕ). unescaped (take m cs)) n ∙ ap unescaped body ∙ meant_again q r.ps r.all in
+    ap (λ (m : ℕ). unescaped (take m cs)) n ∙ ap unescaped body ∙ meant_again q r.ps r.all in
     same_token _ _ _ _ _ _ (string q r.ps r.rest is r.all known) (sym front) (sym back) (ap (λ (xs : List ℕ). lexeme.String xs) (sym text))
 closed_reads fresh q cs k (Some j) is h e =
     let r = quote_taken q cs k h in
@@ -56,9 +56,9 @@ closed_reads fresh q cs k (Some j) is h e =
     let b = bad_taken q r.ps j r.all (ap bad_escape (sym body) ∙ e) in
     let all : AllByRecursion (IsPart q) (b.front ++ Escaped b.b ∷ b.more) = subst (λ (ps : List Part). AllByRecursion (IsPart q) ps) b.whole r.all in
     let whole : quoted q (b.front ++ Escaped b.b ∷ b.more) ++ r.rest ≡ q ∷ cs =
-      ap (λ (ps : List Part). quoted q ps ++ r.rest) (sym b.whole) ∙ sym (ap (λ (xs : List ℕ). q ∷ xs) (r.whole ∙ sym (closed_text q r.ps r.rest))) in
+    ap (λ (ps : List Part). quoted q ps ++ r.rest) (sym b.whole) ∙ sym (ap (λ (xs : List ℕ). q ∷ xs) (r.whole ∙ sym (closed_text q r.ps r.rest))) in
     same_fault fresh _ _ 1 _ _ _ _ (tokens.bad_escape fresh q b.front b.more b.b r.rest is all b.known b.is_bad) whole
-      (omega (arith, b.len)) (omega (arith, b.len))
+    (omega (arith, b.len)) (omega (arith, b.len))
 
 pub string_reads : (fresh : Bool) (q : ℕ) (cs : List ℕ) → is_quote q ≡ true → Reads fresh (q ∷ cs) (string_at q cs)
 unfolding string_at
@@ -84,7 +84,7 @@ unfolding lexeme_of
 string_text q ps rest all =
     let n : length (quoted q ps) - 2 ≡ length (parts ps) = omega (arith, quoted_len q ps) in
     let body : take (length (quoted q ps) - 2) ((parts ps ++ q ∷ []) ++ rest) ≡ parts ps =
-      ap (λ (xs : List ℕ). take (length (quoted q ps) - 2) xs) (closed_text q ps rest) ∙ take_at (parts ps) (q ∷ rest) _ (sym n) in
+    ap (λ (xs : List ℕ). take (length (quoted q ps) - 2) xs) (closed_text q ps rest) ∙ take_at (parts ps) (q ∷ rest) _ (sym n) in
     ap (λ (xs : List ℕ). lexeme.String (unescaped xs)) body ∙ ap (λ (xs : List ℕ). lexeme.String xs) (meant_again q ps all)
 
 pub string_again : (fresh : Bool) (q : ℕ) (ps : List Part) (rest : List ℕ) → is_quote q ≡ true → AllByRecursion (IsPart q) ps →

@@ -31,7 +31,7 @@ some_reads fresh text f h le =
     let n : suc f.len ≡ f.len + 1 = omega arith in
     let len : f.len ≡ length (take f.len text) = sym (length-take-le f.len text le) in
     let whole : variable_at (take f.len text ++ drop f.len text) ≡ Some (variable_of text f, length (take f.len text)) =
-      ap variable_at (take-append-drop f.len text) ∙ h ∙ ap (λ (k : ℕ). Some (variable_of text f, k)) len in
+    ap variable_at (take-append-drop f.len text) ∙ h ∙ ap (λ (k : ℕ). Some (variable_of text f, k)) len in
     let P : ℕ → Type 0 = λ k. IsOrdinary (take k (36 ∷ text)) (drop k (36 ∷ text)) (lexeme.Variable (variable_of text f)) in
     subst P n (variable (take f.len text) (drop f.len text) (variable_of text f) whole)
 

@@ -9,3 +9,4 @@ pub mod Variables
 pub mod Listens
 pub mod Shapes
 pub mod Tokens
+pub mod Pieces

@@ -14,15 +14,20 @@ mod bytes;
 mod comment;
 mod context;
 mod found;
+pub mod laws;
 mod listen;
 mod mark;
+pub mod piece;
 mod reader;
 mod shape;
 mod string;
+#[cfg(test)]
+mod tests;
 mod variable;
 mod word;
 
 use cfg_tree::Token;
+pub use piece::{Piece, pieces};
 use pv_values::ScriptFault;
 use std::alloc::Global;
 

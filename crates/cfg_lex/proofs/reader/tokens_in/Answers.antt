@@ -13,7 +13,7 @@ returns-in-Err-clause-fault c =
     let text = c.args.text.now in
     let read = as_read text c.loop-at.at c.loop-at.context _ _ c.begins_line.ensures c.in-Err.ensures.value in
     fault_of text c.refused.result (seen_fault text c.loop-at.at c.loop-at.context c.loop-at.tokens.items c.in-Err.wrong c.refused.result
-      c.loop-at.invariant c.loop-at-test.true read c.refused.ensures)
+    c.loop-at.invariant c.loop-at-test.true read c.refused.ensures)
 
 pub loop-at-preserved-in-Ok-Gap : goal.loop-at-preserved-in-Ok-Gap
 loop-at-preserved-in-Ok-Gap c =
@@ -23,7 +23,7 @@ loop-at-preserved-in-Ok-Gap c =
     let read = subst (λ f. Read text c.loop-at.at c.loop-at.context (Ok f)) is first in
     let fits = subst (λ f. FitsIn (length (take (length text - c.loop-at.at) (drop c.loop-at.at text))) f) is c.in-Ok-Gap.ensures.within in
     seen_gap text c.loop-at.at c.loop-at.context c.loop-at.tokens.items c.in-Ok-Gap.len c.loop-at.invariant c.loop-at-test.true read
-      (omega (arith, fits.1, rest_len text c.loop-at.at))
+    (omega (arith, fits.1, rest_len text c.loop-at.at))
 
 pub loop-at-preserved : goal.loop-at-preserved
 loop-at-preserved c =
@@ -33,8 +33,8 @@ loop-at-preserved c =
     let read = subst (λ f. Read text c.loop-at.at c.loop-at.context (Ok f)) is first in
     let fits = subst (λ f. FitsIn (length (take (length text - c.loop-at.at) (drop c.loop-at.at text))) f) is c.in-Ok-Token.ensures.within in
     seen_token text c.loop-at.at c.loop-at.context c.behind-context.result c.loop-at.tokens.items c.push.new.self.items c.in-Ok-Token.shape
-      c.in-Ok-Token.len c.in-Ok.lexeme c.loop-at.invariant c.loop-at-test.true read (omega (arith, fits.1, rest_len text c.loop-at.at))
-      c.in-Ok.ensures c.behind-context.ensures c.in-Ok-push.ensures.items
+    c.in-Ok-Token.len c.in-Ok.lexeme c.loop-at.invariant c.loop-at-test.true read (omega (arith, fits.1, rest_len text c.loop-at.at))
+    c.in-Ok.ensures c.behind-context.ensures c.in-Ok-push.ensures.items
 
 pub returns-clause-found : goal.returns-clause-found
 returns-clause-found c =
