@@ -9,15 +9,15 @@ use Rattle.cfg_lex.proofs.Seeks.{seek, seek_on, seek_here, seek_never}
 not_zero : (o : ℕ) → (suc o == 0) ≡ false
 not_zero o = ne_eqb (suc o) 0 (λ e. omega (arith, e))
 
-closed : (c : ℕ) (cs : List ℕ) (o : ℕ) → closes c o ≡ true → before_close o (c ∷ cs) ≡ Some 0
+pub closed : (c : ℕ) (cs : List ℕ) (o : ℕ) → closes c o ≡ true → before_close o (c ∷ cs) ≡ Some 0
 closed c cs zero h = rw h refl
 closed c cs (suc o) h = let n = not_zero o in absurd (false≢true (rw n at h))
 
-ones : (o : Option ℕ) → option_map suc o ≡ option_map (λ n. 1 + n) o
+pub ones : (o : Option ℕ) → option_map suc o ≡ option_map (λ n. 1 + n) o
 ones None = refl
 ones (Some n) = ap (λ (m : ℕ). Some m) (omega arith)
 
-open_on : (c : ℕ) (cs : List ℕ) (o : ℕ) → closes c o ≡ false → before_close o (c ∷ cs) ≡ option_map suc (before_close (opened_behind c o) cs)
+pub open_on : (c : ℕ) (cs : List ℕ) (o : ℕ) → closes c o ≡ false → before_close o (c ∷ cs) ≡ option_map suc (before_close (opened_behind c o) cs)
 open_on c cs zero h = elim (cases_Bool (c == 40)) [
   | inl t ↦ let e = eqb-true c 40 t in rw e refl
   | inr f ↦ rw (h, f) refl

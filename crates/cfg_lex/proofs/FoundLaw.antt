@@ -29,7 +29,7 @@ use Rattle.cfg_lex.proofs.EndLaw.{head_is}
 use Rattle.cfg_lex.proofs.Bytewise.{none_of}
 use Rattle.cfg_lex.proofs.GapLaw.{gap_again}
 use Rattle.cfg_lex.proofs.ListenLaw.{listen_again, listen_takes}
-use Rattle.cfg_lex.proofs.OrdinaryLaw.{Fits, ordinary_reads, token_again, ReadsFault, fault_again}
+use Rattle.cfg_lex.proofs.OrdinaryLaw.{ordinary_reads, token_again, ReadsFault, fault_again}
 
 -- ---- where nothing special stands, what is ordinary is read
 
@@ -156,24 +156,19 @@ finds_as : (fresh : Bool) (context : Context) (text : List ℕ) (r : Result Foun
     Finds fresh context text (found_at fresh context text)
 finds_as fresh context text r e h = subst (λ q. Finds fresh context text q) (sym e) h
 
--- a token that is found lies in the text
-abbrev pub LiesThere : Bool → Context → List ℕ → Type 0
-LiesThere fresh context text = (s : Shape) (n : ℕ) → found_at fresh context text ≡ token s n → n ≤ length text
-
-plain_finds : (fresh : Bool) (context : Context) (text : List ℕ) → 0 < length text → LiesThere fresh context text → NoSpecial context text →
+plain_finds : (fresh : Bool) (context : Context) (text : List ℕ) → 0 < length text → NoSpecial context text →
     found_at fresh context text ≡ ordinary_at fresh text → Finds fresh context text (found_at fresh context text)
-plain_finds fresh context text some lies none e =
-    let fits : Fits fresh text = λ s n h. lies s n (e ∙ h) in
-    finds_as fresh context text (ordinary_at fresh text) e (ordinary_finds fresh context text _ none (ordinary_reads fresh text some fits))
+plain_finds fresh context text some none e =
+    finds_as fresh context text (ordinary_at fresh text) e (ordinary_finds fresh context text _ none (ordinary_reads fresh text some))
 
 some_block : (fresh : Bool) (text : List ℕ) → prefix_len is_block_byte text ≢ 0 → found_at fresh BlockName text ≡ token shape.BlockName (prefix_len is_block_byte text)
 unfolding found_at
 some_block fresh text h = let f : (prefix_len is_block_byte text == 0) ≡ false = ne_eqb _ 0 h in rw f refl
 
-block_finds : (fresh : Bool) (text : List ℕ) → LiesThere fresh BlockName text → prefix_len is_block_byte text ≢ 0 →
+block_finds : (fresh : Bool) (text : List ℕ) → prefix_len is_block_byte text ≢ 0 →
     Finds fresh BlockName text (token shape.BlockName (prefix_len is_block_byte text))
 unfolding lexeme_of
-block_finds fresh text lies h =
+block_finds fresh text h =
     let n = prefix_len is_block_byte text in
     let len = length-prefix_len is_block_byte text in
     block_name (take n text) (drop n text) (above_zero _ (λ e. h (sym len ∙ e))) (run_taken is_block_byte text)
@@ -185,19 +180,19 @@ listen_finds : (fresh : Bool) (text : List ℕ) (r : Listen × ℕ) → listen_a
 unfolding lexeme_of
 listen_finds fresh text r e = listen (take r.1 text) (drop r.1 text) r.0 (listen_takes text r e)
 
-address_finds : (fresh : Bool) (text : List ℕ) (o : Option (Listen × ℕ)) → 0 < length text → LiesThere fresh Address text → listen_at text ≡ o →
+address_finds : (fresh : Bool) (text : List ℕ) (o : Option (Listen × ℕ)) → 0 < length text → listen_at text ≡ o →
     Finds fresh Address text (found_at fresh Address text)
-address_finds fresh text (Some r) some lies e = finds_as fresh Address text _ (listen_read fresh text r.0 r.1 e) (listen_finds fresh text r e)
-address_finds fresh text None some lies e = plain_finds fresh Address text some lies
+address_finds fresh text (Some r) some e = finds_as fresh Address text _ (listen_read fresh text r.0 r.1 e) (listen_finds fresh text r e)
+address_finds fresh text None some e = plain_finds fresh Address text some
     (λ w rest l same is. none-some (l, length w) (sym e ∙ ap listen_at same ∙ listen_again w rest l is)) (no_listen fresh text e)
 
-pub found_finds : (fresh : Bool) (context : Context) (text : List ℕ) → 0 < length text → LiesThere fresh context text →
+pub found_finds : (fresh : Bool) (context : Context) (text : List ℕ) → 0 < length text →
     Finds fresh context text (found_at fresh context text)
-found_finds fresh Plain text some lies = plain_finds fresh Plain text some lies tt (none_special fresh Plain text tt)
-found_finds fresh BehindListen text some lies = plain_finds fresh BehindListen text some lies tt (none_special fresh BehindListen text tt)
-found_finds fresh BehindRoute text some lies = plain_finds fresh BehindRoute text some lies tt (none_special fresh BehindRoute text tt)
-found_finds fresh Address text some lies = address_finds fresh text (listen_at text) some lies refl
-found_finds fresh BlockName text some lies = elim (cases_eq (prefix_len is_block_byte text) 0) [
-  | inl e ↦ plain_finds fresh BlockName text some lies (run_none is_block_byte text e) (no_block fresh text e)
-  | inr n ↦ finds_as fresh BlockName text _ (some_block fresh text n) (block_finds fresh text lies n)
+found_finds fresh Plain text some = plain_finds fresh Plain text some tt (none_special fresh Plain text tt)
+found_finds fresh BehindListen text some = plain_finds fresh BehindListen text some tt (none_special fresh BehindListen text tt)
+found_finds fresh BehindRoute text some = plain_finds fresh BehindRoute text some tt (none_special fresh BehindRoute text tt)
+found_finds fresh Address text some = address_finds fresh text (listen_at text) some refl
+found_finds fresh BlockName text some = elim (cases_eq (prefix_len is_block_byte text) 0) [
+  | inl e ↦ plain_finds fresh BlockName text some (run_none is_block_byte text e) (no_block fresh text e)
+  | inr n ↦ finds_as fresh BlockName text _ (some_block fresh text n) (block_finds fresh text n)
 ]

@@ -20,3 +20,4 @@ mod FoundLaw
 mod Walk
 mod Reading
 mod PieceLaw
+mod Total

@@ -37,19 +37,8 @@ use Rattle.cfg_lex.proofs.Bytewise.{at_blank, at_hash, at_slash, at_word, at_dig
 
 -- ---- from the function
 
--- a token that is read lies in the text
-abbrev pub Fits : Bool → List ℕ → Type 0
-Fits fresh text = (s : Shape) (n : ℕ) → ordinary_at fresh text ≡ token s n → n ≤ length text
-
 read_as : (fresh : Bool) (text : List ℕ) (r : Result Found Wrong) → ordinary_at fresh text ≡ r → Reads fresh text r → Reads fresh text (ordinary_at fresh text)
 read_as fresh text r e h = subst (λ q. Reads fresh text q) (sym e) h
-
-dollar_fits : (fresh : Bool) (text : List ℕ) (f : Form) → Fits fresh (36 ∷ text) → form_at text ≡ Some f → f.len ≤ length text
-unfolding dollar_at
-dollar_fits fresh text f fits e =
-    let r : dollar_at text ≡ token (shape.Variable f) (f.len + 1) = ap (variable_to text) e in
-    let le = fits (shape.Variable f) (f.len + 1) (at_dollar fresh text ∙ r) in
-    omega (arith, le)
 
 -- a byte that is no other token is an operator, a bracket or stray
 record IsOther (b : ℕ) : Type 0 where
@@ -93,30 +82,30 @@ mark_reads fresh b (c ∷ rest) is = two_reads_as fresh b c rest (two_byte_mark 
 
 -- at the byte b
 abbrev ReadsAt : Bool → List ℕ → ℕ → Type 0
-ReadsAt fresh cs b = Fits fresh (b ∷ cs) → Reads fresh (b ∷ cs) (ordinary_at fresh (b ∷ cs))
+ReadsAt fresh cs b = Reads fresh (b ∷ cs) (ordinary_at fresh (b ∷ cs))
 
 reads_hash : (fresh : Bool) (cs : List ℕ) → ReadsAt fresh cs 35
-reads_hash fresh cs fits = read_as fresh (35 ∷ cs) _ (at_hash fresh cs) (hash_reads fresh cs)
+reads_hash fresh cs = read_as fresh (35 ∷ cs) _ (at_hash fresh cs) (hash_reads fresh cs)
 
 reads_slash : (fresh : Bool) (cs : List ℕ) → ReadsAt fresh cs 47
-reads_slash fresh cs fits = read_as fresh (47 ∷ cs) _ (at_slash fresh cs) (slash_reads fresh cs)
+reads_slash fresh cs = read_as fresh (47 ∷ cs) _ (at_slash fresh cs) (slash_reads fresh cs)
 
 reads_dollar : (fresh : Bool) (cs : List ℕ) → ReadsAt fresh cs 36
-reads_dollar fresh cs fits = read_as fresh (36 ∷ cs) _ (at_dollar fresh cs) (dollar_reads fresh cs (λ f e. dollar_fits fresh cs f fits e))
+reads_dollar fresh cs = read_as fresh (36 ∷ cs) _ (at_dollar fresh cs) (dollar_reads fresh cs)
 
 reads_blank : (fresh : Bool) (c : ℕ) (cs : List ℕ) → is_blank c ≡ true → ReadsAt fresh cs c
-reads_blank fresh c cs h fits = read_as fresh (c ∷ cs) _ (at_blank fresh c cs h) (blank fresh c cs h)
+reads_blank fresh c cs h = read_as fresh (c ∷ cs) _ (at_blank fresh c cs h) (blank fresh c cs h)
 
 -- no blank, `#` or `/`
 reads_later : (fresh : Bool) (c : ℕ) (cs : List ℕ) → is_blank c ≡ false → c ≢ 35 → c ≢ 47 → ReadsAt fresh cs c
-reads_later fresh c cs b h s fits = elim (cases_Bool (begins_name c)) [
+reads_later fresh c cs b h s = elim (cases_Bool (begins_name c)) [
   | inl t ↦ read_as fresh (c ∷ cs) _ (at_word fresh c cs t) (word_reads fresh c cs t)
   | inr w ↦ elim (cases_Bool (is_ascii_digit c)) [
     | inl t ↦ read_as fresh (c ∷ cs) _ (at_digit fresh c cs t) (number_reads fresh c cs t)
     | inr d ↦ elim (cases_Bool (is_quote c)) [
       | inl t ↦ read_as fresh (c ∷ cs) _ (at_quote fresh c cs t) (string_reads fresh c cs t)
       | inr q ↦ elim (cases_eq c 36) [
-        | inl e ↦ subst (λ m. ReadsAt fresh cs m) (sym e) (reads_dollar fresh cs) fits
+        | inl e ↦ subst (λ m. ReadsAt fresh cs m) (sym e) (reads_dollar fresh cs)
         | inr n ↦ read_as fresh (c ∷ cs) _ (other_reads fresh c cs b h s w d q n)
             (mark_reads fresh c cs record { blank = b; hash = h; slash = s; word = w; digit = d; quote = q; dollar = n })
       ]
@@ -124,15 +113,15 @@ reads_later fresh c cs b h s fits = elim (cases_Bool (begins_name c)) [
   ]
 ]
 
-pub ordinary_reads : (fresh : Bool) (text : List ℕ) → 0 < length text → Fits fresh text → Reads fresh text (ordinary_at fresh text)
-ordinary_reads fresh [] some fits = absurd (omega arith)
-ordinary_reads fresh (c ∷ cs) some fits = elim (cases_Bool (is_blank c)) [
-  | inl t ↦ reads_blank fresh c cs t fits
+pub ordinary_reads : (fresh : Bool) (text : List ℕ) → 0 < length text → Reads fresh text (ordinary_at fresh text)
+ordinary_reads fresh [] some = absurd (omega arith)
+ordinary_reads fresh (c ∷ cs) some = elim (cases_Bool (is_blank c)) [
+  | inl t ↦ reads_blank fresh c cs t
   | inr b ↦ elim (cases_eq c 35) [
-    | inl e ↦ subst (λ m. ReadsAt fresh cs m) (sym e) (reads_hash fresh cs) fits
+    | inl e ↦ subst (λ m. ReadsAt fresh cs m) (sym e) (reads_hash fresh cs)
     | inr h ↦ elim (cases_eq c 47) [
-      | inl e ↦ subst (λ m. ReadsAt fresh cs m) (sym e) (reads_slash fresh cs) fits
-      | inr s ↦ reads_later fresh c cs b h s fits
+      | inl e ↦ subst (λ m. ReadsAt fresh cs m) (sym e) (reads_slash fresh cs)
+      | inr s ↦ reads_later fresh c cs b h s
     ]
   ]
 ]

@@ -16,7 +16,7 @@ use Rattle.cfg_lex.specs.declared.shape.Wrong.TheVariants.{BadByte, Unclosed}
 use Rattle.cfg_lex.specs.Contexts as contexts
 use Rattle.cfg_lex.specs.Shapes.{found_at, lexeme_of, begins_line, refused}
 use Rattle.cfg_lex.specs.Tokens.{IsGap, NoSpecial, IsToken, IsFault, place, HasTokens, at_the_end, gap, token, FirstFault, here, behind_gap, behind_token, longest, TokensOf, FaultOf, inside, IsFaultOf}
-use Rattle.cfg_lex.proofs.FoundLaw.{Finds, LiesThere, found_finds}
+use Rattle.cfg_lex.proofs.FoundLaw.{Finds, found_finds}
 
 -- what was read before is the front of the text's tokens, and no fault stands before this place
 pub record Seen (text : List ℕ) (i : ℕ) (context : Context) (front : List Token) : Type 0 where
@@ -36,26 +36,15 @@ read_here : (text : List ℕ) (i : ℕ) (context : Context) (r : Result Found Wr
 read_here text i context r h = let k = rw take_rest at h in sym k
 
 finds_here : (text : List ℕ) (i : ℕ) (context : Context) (r : Result Found Wrong) → i < length text → Read text i context r →
-    ((s : Shape) (n : ℕ) → r ≡ Ok (found.Token s n) → n ≤ length (drop i text)) → Finds (begins_line text i) context (drop i text) r
-finds_here text i context r lt h lies =
-    let e = read_here text i context r h in
-    let there : LiesThere (begins_line text i) context (drop i text) = λ s n k. lies s n (sym e ∙ k) in
-    subst (λ q. Finds (begins_line text i) context (drop i text) q) e
-    (found_finds (begins_line text i) context (drop i text) (omega (arith, length-drop i text)) there)
-
-no_token : (n m : ℕ) (s : Shape) → (let r : Result Found Wrong = Ok (found.Gap n) in r) ≡ Ok (found.Token s m) → ⊥
-no_token n m s e = cc
-
-no_found : (w : Wrong) (m : ℕ) (s : Shape) → (let r : Result Found Wrong = Err w in r) ≡ Ok (found.Token s m) → ⊥
-no_found w m s e = cc
-
-same_len : (s t : Shape) (n m : ℕ) → (let r : Result Found Wrong = Ok (found.Token s n) in r) ≡ Ok (found.Token t m) → n ≡ m
-same_len s t n m e = cc
+    Finds (begins_line text i) context (drop i text) r
+finds_here text i context r lt h =
+    subst (λ q. Finds (begins_line text i) context (drop i text) q) (read_here text i context r h)
+      (found_finds (begins_line text i) context (drop i text) (omega (arith, length-drop i text)))
 
 pub seen_gap : (text : List ℕ) (i : ℕ) (context : Context) (front : List Token) (n : ℕ) → Seen text i context front → i < length text →
     Read text i context (Ok (found.Gap n)) → n ≤ length text - i → Seen text (i + n) context front
 seen_gap text i context front n seen lt h le =
-    let g = finds_here text i context (Ok (found.Gap n)) lt h (λ s m e. absurd (no_token n m s e)) in
+    let g = finds_here text i context (Ok (found.Gap n)) lt h in
     let whole : drop i text ≡ take n (drop i text) ++ drop n (drop i text) = sym (take-append-drop n (drop i text)) in
     let len : length (take n (drop i text)) ≡ n = length-take-le n (drop i text) (omega (arith, length-drop i text, le)) in
     record {
@@ -70,8 +59,7 @@ pub seen_token : (text : List ℕ) (i : ℕ) (context next : Context) (front ite
     x ≡ lexeme_of (take (length text - i) (drop i text)) s n → next ≡ contexts.behind context x →
     items ≡ front ++ (record { lexeme = x; at = place i (i + n) }) ∷ [] → Seen text (i + n) next items
 seen_token text i context next front items s n x seen lt h le is behind added =
-    let lies : (t : Shape) (m : ℕ) → (let r : Result Found Wrong = Ok (found.Token s n) in r) ≡ Ok (found.Token t m) → m ≤ length (drop i text) = λ t m e. omega (arith, same_len s t n m e, length-drop i text, le) in
-    let t = finds_here text i context (Ok (found.Token s n)) lt h lies in
+    let t = finds_here text i context (Ok (found.Token s n)) lt h in
     let whole : drop i text ≡ take n (drop i text) ++ drop n (drop i text) = sym (take-append-drop n (drop i text)) in
     let len : length (take n (drop i text)) ≡ n = length-take-le n (drop i text) (omega (arith, length-drop i text, le)) in
     let same : lexeme_of (drop i text) s n ≡ x = let k = rw take_rest at is in sym k in
@@ -110,7 +98,7 @@ fault_here text i context Unclosed le h =
 pub seen_fault : (text : List ℕ) (i : ℕ) (context : Context) (front : List Token) (w : Wrong) (f : ScriptFault) → Seen text i context front → i < length text →
     Read text i context (Err w) → f ≡ refused i (length text) w → FaultOf text f
 seen_fault text i context front w f seen lt h is =
-    let g = finds_here text i context (Err w) lt h (λ s m e. absurd (no_found w m s e)) in
+    let g = finds_here text i context (Err w) lt h in
     inside text f seen.short (seen.fault f (subst (λ e. FirstFault text i context e) (sym is) (fault_here text i context w seen.within g)))
 
 pub fault_of : (text : List ℕ) (f : ScriptFault) → FaultOf text f → IsFaultOf text f

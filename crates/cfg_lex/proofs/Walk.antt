@@ -71,7 +71,7 @@ walk_found n text i context xs r e some h = ap (at_place (walk n text) text i co
 
 -- ---- each step has a byte
 
-gap_some : (fresh : Bool) (w rest : List ℕ) → IsGap fresh w rest → 0 < length w
+pub gap_some : (fresh : Bool) (w rest : List ℕ) → IsGap fresh w rest → 0 < length w
 gap_some _ _ _ (blank fresh b rest h) = omega arith
 gap_some _ _ _ (hash fresh w rest is lacks) = omega arith
 gap_some _ _ _ (slashes fresh w rest is) = omega arith
@@ -93,7 +93,7 @@ ordinary_some _ _ _ (variable w rest v h) = omega arith
 listen_some : (w rest : List ℕ) (l : Listen) → IsListen w rest l → 0 < length w
 listen_some w rest l is = let e = ap length is.whole in omega (arith, e)
 
-token_some : (context : Context) (w rest : List ℕ) (x : Lexeme) → IsToken context w rest x → 0 < length w
+pub token_some : (context : Context) (w rest : List ℕ) (x : Lexeme) → IsToken context w rest x → 0 < length w
 token_some _ _ _ _ (block_name w rest some is) = some
 token_some _ _ _ _ (listen w rest l is) = listen_some w rest l is
 token_some _ _ _ _ (ordinary context w rest x none is) = ordinary_some w rest x is
@@ -112,7 +112,7 @@ walk_token n text i context w rest x e is =
     walk_found n text i context (w ++ rest) _ e (omega (arith, token_some context w rest x is, length-append w rest)) r.read
     ∙ ap (λ (y : Lexeme). in_front (made y i (length w)) (walk n text (i + length w) (contexts.behind context y))) same
 
-left : (text : List ℕ) (i : ℕ) (w rest : List ℕ) → drop i text ≡ w ++ rest → length (drop i text) ≡ length w + length (drop (i + length w) text)
+pub left : (text : List ℕ) (i : ℕ) (w rest : List ℕ) → drop i text ≡ w ++ rest → length (drop i text) ≡ length w + length (drop (i + length w) text)
 left text i w rest e = let b = behind text i w rest e in ap length e ∙ length-append w rest ∙ ap (λ (xs : List ℕ). length w + length xs) (sym b)
 
 one_less : (n : ℕ) (text : List ℕ) (i : ℕ) (context : Context) → 0 < n → walk n text i context ≡ walk (suc (n - 1)) text i context

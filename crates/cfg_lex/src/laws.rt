@@ -1,6 +1,8 @@
 //! Laws of tokens, for the layers above. Each function states a law, and does nothing when it is called.
 
-ghost use Rattle.std.specs.Prelude.{◌≡◌, ℕ, List};
+ghost use Rattle.std.specs.Prelude.{◌≡◌, ◌⊎◌, ℕ, List};
+ghost use Rattle.pv_values.specs.declared.refusal.Place.{Place};
+ghost use Rattle.pv_values.specs.declared.refusal.ScriptFault.TheVariants.{Refused};
 ghost use Rattle.pv_values.specs.declared.refusal.ScriptFault.{ScriptFault};
 ghost use Rattle.cfg_tree.specs.declared.token.Token.{Token};
 ghost use Rattle.cfg_lex.specs.Tokens.{TokensOf, FaultOf};
@@ -18,4 +20,10 @@ pub fn a_text_has_one_first_fault()
 /// A text that has a fault has no tokens.
 pub fn a_text_with_a_fault_has_no_tokens()
     ensures { (text : List ℕ) (ts : List Token) (f : ScriptFault) → TokensOf text ts → FaultOf text f → ⊥ }
+{}
+
+/// Each text has tokens, or a first fault.
+pub fn each_text_has_tokens_or_a_fault()
+    ensures { (text : List ℕ) → ((ts : List Token) × TokensOf text ts)
+        ⊎ ((kind : ℕ) × (at : Place) × FaultOf text (Refused kind at)) }
 {}
