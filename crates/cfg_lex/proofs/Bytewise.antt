@@ -1,13 +1,13 @@
 -- What the first byte of a text decides.
-use Rattle.std.proofs.Common.{◌≡◌, ◌≢◌, ℕ, Bool, true, false, not, List, [], ◌∷◌, ◌==◌, ◌||◌, refl, sym, subst, ap, ◌∙◌, inl, inr, arith, Ok}
+use Rattle.std.proofs.Common.{◌≡◌, ◌≢◌, ℕ, Bool, true, false, List, [], ◌∷◌, ◌==◌, refl, sym, subst, inl, inr, arith, Ok}
 use Rattle.std.proofs.lemmas.Bool.Decides.{nat_tests}
 use Rattle.cfg_lex.specs.declared.shape.Found.TheVariants.{Gap}
 use Rattle.std.specs.Char.{is_ascii_digit}
 use Rattle.std.specs.List.{list_any}
 use Rattle.std.specs.Prelude.{codes}
-use Rattle.std.proofs.lemmas.Bool.{cases_Bool, cases_eq, eqb-true, ne_eqb, both_ways}
+use Rattle.std.proofs.lemmas.Bool.{cases_Bool, cases_eq, ne_eqb, both_ways}
 use Rattle.cfg_tree.specs.Variables.{begins_name}
-use Rattle.cfg_lex.specs.Bytes.{is_blank, is_quote, is_block_byte}
+use Rattle.cfg_lex.specs.Bytes.{is_blank, is_quote}
 use Rattle.cfg_lex.specs.Shapes.{ordinary_at, hash_at, slash_at, word_at, number_at, string_at, dollar_at}
 
 -- a byte of a class is none that the class lacks

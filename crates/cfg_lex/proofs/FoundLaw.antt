@@ -1,8 +1,7 @@
 -- What stands at a place, in its context: the relation and the reading function agree.
-use Rattle.std.proofs.Common.{◌≡◌, ◌≢◌, ℕ, suc, ◌+◌, ◌<◌, ◌≤◌, Bool, true, false, List, [], ◌∷◌, ◌++◌, length, take, drop, ◌==◌, refl, sym, subst, ap, ◌∙◌, inl, inr, arith, Option, Some, None, Result, Ok, Err, length-append}
+use Rattle.std.proofs.Common.{◌≡◌, ◌≢◌, ℕ, ◌<◌, Bool, true, false, List, [], ◌∷◌, ◌++◌, length, take, drop, ◌==◌, refl, sym, subst, ap, ◌∙◌, inl, inr, arith, Option, Some, None, Result, Ok, Err}
 use Rattle.std.specs.Prelude.{codes}
-use Rattle.std.specs.List.{prefix_len, flat_map}
-use Rattle.std.specs.Str.Parse.{digits_value}
+use Rattle.std.specs.List.{prefix_len}
 use Rattle.std.proofs.lemmas.Bool.{cases_Bool, cases_eq, ne_eqb, both_ways}
 use Rattle.std.proofs.lemmas.List.{take-append-drop, take_at}
 use Rattle.std.proofs.lemmas.Option.{none-some}
@@ -20,16 +19,15 @@ use Rattle.cfg_lex.specs.declared.shape.Wrong.{Wrong}
 use Rattle.cfg_lex.specs.declared.shape.Wrong.TheVariants.{BadByte, Unclosed}
 use Rattle.cfg_lex.specs.Bytes.{is_blank, is_block_byte}
 use Rattle.cfg_lex.specs.Listens.{listen_at}
-use Rattle.cfg_lex.specs.Shapes.{block_name_or, listen_or, ordinary_at, found_at, lexeme_of}
-use Rattle.cfg_lex.specs.Tokens.{Ends, IsRun, IsGap, blank, hash, slashes, bracketed, IsOrdinary, IsListen, NoSpecial, IsToken, block_name, listen, ordinary, IsFault}
-use Rattle.cfg_lex.specs.Tokens as tokens
-use Rattle.cfg_lex.proofs.ReadLaw.{Reads, token, ReadsToken}
+use Rattle.cfg_lex.specs.Shapes.{ordinary_at, found_at, lexeme_of}
+use Rattle.cfg_lex.specs.Tokens.{Ends, IsRun, IsGap, blank, hash, slashes, bracketed, IsListen, NoSpecial, IsToken, block_name, listen, ordinary, IsFault}
+use Rattle.cfg_lex.proofs.ReadLaw.{Reads, token}
 use Rattle.cfg_lex.proofs.RunLaw.{run_is, run_taken}
 use Rattle.cfg_lex.proofs.EndLaw.{head_is}
 use Rattle.cfg_lex.proofs.Bytewise.{none_of}
 use Rattle.cfg_lex.proofs.GapLaw.{gap_again}
 use Rattle.cfg_lex.proofs.ListenLaw.{listen_again, listen_takes}
-use Rattle.cfg_lex.proofs.OrdinaryLaw.{ordinary_reads, token_again, ReadsFault, fault_again}
+use Rattle.cfg_lex.proofs.OrdinaryLaw.{ordinary_reads, token_again}
 
 -- ---- where nothing special stands, what is ordinary is read
 

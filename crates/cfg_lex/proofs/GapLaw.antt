@@ -1,24 +1,21 @@
 -- What parts tokens: the relation and the reading function agree.
-use Rattle.std.proofs.Common.{◌≡◌, ◌≢◌, ℕ, suc, ◌+◌, Bool, true, false, not, List, [], ◌∷◌, ◌++◌, length, take, drop, ◌==◌, refl, sym, subst, ap, ◌∙◌, inl, inr, arith, Option, Some, None, Result, Ok, Err, length-append, append_assoc}
-use Rattle.std.specs.List.{prefix_len, AllByRecursion}
-use Rattle.std.proofs.lemmas.Bool.{cases_Bool, cases_eq, eqb-true, eq-eqb, ne_eqb, both_ways}
+use Rattle.std.proofs.Common.{◌≡◌, ℕ, suc, ◌+◌, Bool, false, not, List, [], ◌∷◌, ◌++◌, length, take, drop, ◌==◌, refl, sym, subst, ap, ◌∙◌, inl, inr, arith, Option, Some, None, Result, Ok, length-append, append_assoc}
+use Rattle.std.specs.List.{prefix_len}
+use Rattle.std.proofs.lemmas.Bool.{cases_Bool, cases_eq, eq-eqb, ne_eqb, both_ways}
 use Rattle.std.proofs.lemmas.List.{take_at, drop_at, take-append-drop}
 use Rattle.cfg_tree.specs.declared.token.Lexeme.TheVariants as lexeme
 use Rattle.cfg_tree.specs.declared.token.Mark.TheVariants as mark
 use Rattle.cfg_tree.specs.Variables.{begins_with, before}
-use Rattle.cfg_lex.specs.declared.shape.Shape.TheVariants as shape
 use Rattle.cfg_lex.specs.declared.shape.Found.{Found}
-use Rattle.cfg_lex.specs.declared.shape.Found.TheVariants.{Gap, Token}
+use Rattle.cfg_lex.specs.declared.shape.Found.TheVariants.{Gap}
 use Rattle.cfg_lex.specs.declared.shape.Wrong.{Wrong}
-use Rattle.cfg_lex.specs.declared.shape.Wrong.TheVariants.{BadByte, Unclosed}
-use Rattle.cfg_lex.specs.Bytes.{is_blank}
 use Rattle.cfg_lex.specs.Comments.{is_no_comment, before_end}
-use Rattle.cfg_lex.specs.Marks.{two_byte_mark, one_byte_mark}
+use Rattle.cfg_lex.specs.Marks.{two_byte_mark}
 use Rattle.cfg_lex.specs.Shapes.{comment_to, hash_at, slash_at, ordinary_at, lexeme_of}
-use Rattle.cfg_lex.specs.Tokens.{Ends, IsRun, IsLine, IsGap, blank, hash, slashes, bracketed, IsOrdinary, short_mark, IsWholeMark, NoEnd, IsFault, open_comment, stray_hash}
+use Rattle.cfg_lex.specs.Tokens.{IsLine, IsGap, blank, hash, slashes, bracketed, IsOrdinary, short_mark, NoEnd, IsFault, open_comment, stray_hash}
 use Rattle.cfg_lex.proofs.ReadLaw.{Reads}
 use Rattle.cfg_lex.proofs.RunLaw.{run_is, run_taken}
-use Rattle.cfg_lex.proofs.EndLaw.{end_again, end_taken, no_end, none_ends}
+use Rattle.cfg_lex.proofs.EndLaw.{end_again, end_taken, no_end}
 use Rattle.cfg_lex.proofs.MarkLaw.{divide_is}
 use Rattle.cfg_lex.proofs.Bytewise.{at_blank, at_hash, at_slash}
 

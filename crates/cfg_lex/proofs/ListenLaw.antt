@@ -1,12 +1,12 @@
 -- LISTEN: the relation and the reading function agree.
-use Rattle.std.proofs.Common.{◌≡◌, ℕ, suc, ◌+◌, ◌≤◌, Bool, true, false, ◌&&◌, List, [], ◌∷◌, ◌++◌, length, take, drop, ◌==◌, nat_le, refl, subst, sym, ap, ◌∙◌, inl, inr, arith, Option, Some, None, cond, append_assoc, length-append}
+use Rattle.std.proofs.Common.{◌≡◌, ℕ, suc, ◌+◌, Bool, true, false, List, [], ◌∷◌, ◌++◌, length, take, drop, nat_le, refl, subst, sym, ap, ◌∙◌, arith, Option, Some, None, cond, append_assoc, length-append}
 use Rattle.std.specs.Prelude.{nat_lt, codes}
 use Rattle.std.specs.Int.{w32, from_be_bytes}
 use Rattle.std.specs.Str.{bytes_eq}
 use Rattle.std.specs.List.{prefix_len}
 use Rattle.std.specs.Char.{is_ascii_digit}
 use Rattle.std.specs.Str.Parse.{digits_value}
-use Rattle.std.proofs.lemmas.Bool.{cases_Bool, lt-ltb, ltb-true, both_ways, and_parts, le-leb, leb-true}
+use Rattle.std.proofs.lemmas.Bool.{lt-ltb, ltb-true, and_parts, le-leb}
 use Rattle.std.proofs.lemmas.List.{take-append-drop, take_at, drop-drop}
 use Rattle.std.proofs.lemmas.Option.{cond_some, same_Some, none-some}
 use Rattle.std.proofs.lemmas.Slice.Eq.{bytes_eq-Decides}
@@ -14,7 +14,6 @@ use Rattle.sip_words.specs.declared.bytes.Class.TheVariants as class
 use Rattle.sip_words.specs.Bytes.{has}
 use Rattle.sip_words.specs.Words.{word_end, stands, run_end}
 use Rattle.sip_words.specs.Numbers.{number_at}
-use Rattle.sip_words.specs.Grammar.{IsWord}
 use Rattle.sip_words.proofs.Digits.{word_is}
 use Rattle.sip_words.proofs.Steps.{bind_some}
 use Rattle.sip_words.proofs.Pieces.{behind, number_again, stands_at}

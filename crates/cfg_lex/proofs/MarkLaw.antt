@@ -1,14 +1,14 @@
 -- Operators and brackets, and the bytes with which no token begins.
-use Rattle.std.proofs.Common.{◌≡◌, ◌≢◌, ℕ, ◌+◌, Bool, true, false, cond, List, [], ◌∷◌, ◌++◌, length, take, drop, ◌==◌, ◌&&◌, refl, sym, subst, ap, ◌∙◌, inl, inr, arith, Option, Some, None, Ok, Err}
+use Rattle.std.proofs.Common.{◌≡◌, ◌≢◌, ℕ, Bool, true, false, List, ◌∷◌, ◌==◌, ◌&&◌, refl, sym, subst, inl, inr, Some}
 use Rattle.std.specs.Char.{is_ascii_digit}
-use Rattle.std.proofs.lemmas.Bool.{cases_Bool, cases_eq, eqb-true, eq-eqb, ne_eqb, both_ways, and_parts}
-use Rattle.std.proofs.lemmas.Option.{same_Some, none-some}
+use Rattle.std.proofs.lemmas.Bool.{cases_Bool, cases_eq, eqb-true, ne_eqb, and_parts}
+use Rattle.std.proofs.lemmas.Option.{none-some}
 use Rattle.cfg_tree.specs.declared.token.Mark as marks
 use Rattle.cfg_tree.specs.declared.token.Mark.TheVariants.{Divide}
-use Rattle.cfg_tree.specs.Variables.{begins_name, begins_with}
+use Rattle.cfg_tree.specs.Variables.{begins_name}
 use Rattle.cfg_lex.specs.Bytes.{is_blank, is_quote}
 use Rattle.cfg_lex.specs.Marks.{two_byte_mark, bracket, one_byte_mark}
-use Rattle.cfg_lex.specs.Shapes.{ordinary_at, mark_at, slash_at}
+use Rattle.cfg_lex.specs.Shapes.{ordinary_at, mark_at}
 
 -- what holds of the bytes of the brackets, of the commas and of the operators holds of each byte that is one
 bracket_byte : (P : ℕ → Type 0) → P 40 → P 41 → P 91 → P 93 → P 123 → P 125 → P 44 → P 59 → P 58 → (a : ℕ) (m : marks.Mark) →

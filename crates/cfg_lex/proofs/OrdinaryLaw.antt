@@ -1,9 +1,9 @@
 -- What may stand at every place: the relation and the reading function agree.
-use Rattle.std.proofs.Common.{◌≡◌, ◌≢◌, ◌⊎◌, ℕ, suc, ◌+◌, ◌<◌, ◌≤◌, Bool, true, false, List, [], ◌∷◌, ◌++◌, length, take, drop, ◌==◌, refl, sym, subst, ap, ◌∙◌, inl, inr, arith, Option, Some, None, Result, Ok, Err}
+use Rattle.std.proofs.Common.{◌≡◌, ◌≢◌, ◌⊎◌, ℕ, ◌+◌, ◌<◌, Bool, true, false, List, [], ◌∷◌, ◌++◌, length, refl, sym, subst, ap, ◌∙◌, inl, inr, arith, Option, Some, None, Result, Err}
 use Rattle.std.specs.Char.{is_ascii_digit}
 use Rattle.std.specs.List.{AllByRecursion}
 use Rattle.std.proofs.lemmas.List.{append-nil}
-use Rattle.std.proofs.lemmas.Bool.{cases_Bool, cases_eq, eqb-true, ne_eqb, eq-eqb}
+use Rattle.std.proofs.lemmas.Bool.{cases_Bool, cases_eq, ne_eqb}
 use Rattle.std.proofs.lemmas.Option.{same_Some, none-some}
 use Rattle.pv_values.specs.declared.refusal.ScriptFault.{ScriptFault}
 use Rattle.pv_values.specs.declared.refusal.ScriptFault.TheVariants.{Refused}
@@ -12,19 +12,15 @@ use Rattle.cfg_tree.specs.declared.token.Lexeme.TheVariants as lexeme
 use Rattle.cfg_tree.specs.declared.token.Mark as marks
 use Rattle.cfg_tree.specs.declared.token.Mark.TheVariants.{Divide}
 use Rattle.cfg_tree.specs.Variables.{begins_name}
-use Rattle.cfg_lex.specs.declared.variable.Form.{Form}
-use Rattle.cfg_lex.specs.declared.shape.Shape.{Shape}
 use Rattle.cfg_lex.specs.declared.shape.Shape.TheVariants as shape
 use Rattle.cfg_lex.specs.declared.shape.Found.{Found}
 use Rattle.cfg_lex.specs.declared.shape.Wrong.{Wrong}
 use Rattle.cfg_lex.specs.declared.shape.Wrong.TheVariants.{BadByte, Unclosed}
 use Rattle.cfg_lex.specs.Bytes.{is_blank, is_quote}
 use Rattle.cfg_lex.specs.Comments.{is_no_comment, before_end}
-use Rattle.cfg_lex.specs.Strings.{before_quote}
-use Rattle.cfg_lex.specs.Variables.{form_at}
 use Rattle.cfg_lex.specs.Marks.{two_byte_mark, one_byte_mark}
-use Rattle.cfg_lex.specs.Shapes.{bad, one_byte, two_bytes, mark_at, hash_at, slash_at, variable_to, dollar_at, ordinary_at, lexeme_of, refused}
-use Rattle.cfg_lex.specs.Tokens.{Part, IsPart, parts, IsGap, blank, IsOrdinary, name, word, long_mark, short_mark, number, string, variable, IsWholeMark, IsStray, IsFault, open_string, open_comment, open_variable, bad_escape, large_number, stray_hash, stray_dollar, stray_byte, place}
+use Rattle.cfg_lex.specs.Shapes.{bad, one_byte, two_bytes, mark_at, hash_at, slash_at, ordinary_at, lexeme_of, refused}
+use Rattle.cfg_lex.specs.Tokens.{Part, IsPart, parts, blank, IsOrdinary, name, word, long_mark, short_mark, number, string, variable, IsWholeMark, IsStray, IsFault, open_string, open_comment, open_variable, bad_escape, large_number, stray_hash, stray_dollar, stray_byte, place}
 use Rattle.cfg_lex.proofs.ReadLaw.{Reads, token, ReadsToken}
 use Rattle.cfg_lex.proofs.EndLaw.{head_is, none_ends}
 use Rattle.cfg_lex.proofs.GapLaw.{hash_reads, slash_reads}

@@ -1,5 +1,5 @@
 -- The form of a variable is that of the variable which stands there.
-use Rattle.std.proofs.Common.{◌≡◌, ℕ, ◌+◌, true, false, ◌&&◌, List, take, drop, ◌==◌, refl, sym, ap, ◌∙◌, inl, inr, arith, Option, Some, None, option_map}
+use Rattle.std.proofs.Common.{◌≡◌, ℕ, ◌+◌, ◌&&◌, List, take, drop, ◌==◌, refl, ap, ◌∙◌, inl, inr, arith, Option, Some, None, option_map}
 use Rattle.std.proofs.lemmas.Bool.{cases_Bool}
 use Rattle.std.proofs.lemmas.List.{drop-drop}
 use Rattle.cfg_tree.specs.declared.token.Variable.{Variable}
@@ -7,7 +7,7 @@ use Rattle.cfg_tree.specs.Variables.{name_len, begins_with, before, before_close
 use Rattle.cfg_tree.specs.Variables as tree
 use Rattle.cfg_lex.specs.declared.variable.Part.{Part}
 use Rattle.cfg_lex.specs.declared.variable.Form.{Form}
-use Rattle.cfg_lex.specs.Variables.{part, further, bytes_of, variable_of, with_inner, with_transformation, transformed, named_form, form_at}
+use Rattle.cfg_lex.specs.Variables.{further, bytes_of, variable_of, with_inner, with_transformation, transformed, named_form, form_at}
 
 -- the variable of a form, and how many bytes it takes
 abbrev pub pictured : List ℕ → Option Form → Option (Variable × ℕ)

@@ -1,5 +1,5 @@
 -- The pieces of a text, one after the other.
-use Rattle.std.proofs.Common.{◌≡◌, ℕ, zero, suc, ◌+◌, ◌-◌, ◌<◌, ◌≤◌, Bool, true, false, List, [], ◌∷◌, ◌++◌, length, take, drop, nat_le, refl, sym, subst, ap, ◌∙◌, inl, inr, arith, Option, Some, None, option_map, append_assoc, length-drop}
+use Rattle.std.proofs.Common.{◌≡◌, ℕ, zero, suc, ◌+◌, ◌-◌, ◌<◌, ◌≤◌, List, [], ◌∷◌, ◌++◌, length, take, drop, nat_le, refl, sym, ap, ◌∙◌, inl, inr, arith, Option, Some, None, option_map, append_assoc, length-drop}
 use Rattle.std.specs.Prelude.{map}
 use Rattle.std.proofs.lemmas.Bool.{cases_Bool, leb-true}
 use Rattle.std.proofs.lemmas.List.{take_rest, drop-drop, drop_all, append-nil}
@@ -9,7 +9,7 @@ use Rattle.cfg_tree.specs.Variables as tree
 use Rattle.cfg_lex.specs.declared.piece.Piece.{Piece}
 use Rattle.cfg_lex.specs.declared.variable.Form.{Form}
 use Rattle.cfg_lex.specs.Variables.{form_at}
-use Rattle.cfg_lex.specs.Pieces.{as_piece, variable_piece, first_piece, shown}
+use Rattle.cfg_lex.specs.Pieces.{as_piece, variable_piece, first_piece}
 use Rattle.cfg_lex.proofs.PictureLaw.{pictured, form_is}
 
 abbrev pub in_front : tree.Piece → Option (List tree.Piece) → Option (List tree.Piece)

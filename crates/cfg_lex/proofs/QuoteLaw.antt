@@ -1,13 +1,13 @@
 -- Strings: their parts, and what is read of them.
-use Rattle.std.proofs.Common.{◌≡◌, ◌≢◌, ◌⊎◌, ℕ, zero, suc, ◌+◌, Bool, true, false, List, [], ◌∷◌, ◌++◌, length, drop, ◌==◌, ◌&&◌, refl, sym, subst, ap, ◌∙◌, inl, inr, arith, Option, Some, None, option_map, length-append, append_assoc}
-use Rattle.std.specs.Prelude.{map, not}
-use Rattle.std.specs.List.{flat_map, AllByRecursion}
-use Rattle.std.proofs.lemmas.Bool.{cases_Bool, cases_eq, eqb-true, eq-eqb, ne_eqb, both_ways, and_parts}
+use Rattle.std.proofs.Common.{◌≡◌, ◌≢◌, ◌⊎◌, ℕ, ◌+◌, true, false, List, [], ◌∷◌, ◌++◌, length, ◌==◌, refl, sym, subst, ap, ◌∙◌, inl, inr, arith, Option, Some, None, option_map, length-append, append_assoc}
+use Rattle.std.specs.Prelude.{map}
+use Rattle.std.specs.List.{AllByRecursion}
+use Rattle.std.proofs.lemmas.Bool.{cases_Bool, cases_eq, eq-eqb, ne_eqb}
 use Rattle.std.proofs.lemmas.Option.{same_Some, none-some}
 use Rattle.cfg_lex.specs.Strings.{is_escape, escaped, before_quote, is_bad, bad_escape, unescaped}
 use Rattle.cfg_lex.specs.Tokens.{Part, Itself, Escaped, written, meant, IsPart, IsKnown, parts}
 use Rattle.cfg_lex.proofs.EndLaw.{map_some}
-use Rattle.cfg_lex.proofs.Quotes.{closes, pair, goes, nowhere, bad, known, plain}
+use Rattle.cfg_lex.proofs.Quotes.{closes, pair, goes, nowhere, bad, known}
 
 ones : (o : Option ℕ) (n m : ℕ) → o ≡ Some n → 1 + n ≡ m → option_map (λ k. 1 + k) o ≡ Some m
 ones o n m h e = ap (λ (p : Option ℕ). option_map (λ k. 1 + k) p) h ∙ ap (λ (k : ℕ). Some k) e

@@ -1,7 +1,6 @@
 -- The loop over the tokens of a text.
 use Rattle.std.proofs.Common.{◌≡◌, ℕ, ◌+◌, ◌-◌, ◌<◌, ◌≤◌, Bool, List, [], ◌∷◌, ◌++◌, length, take, drop, refl, sym, subst, ap, ◌∙◌, arith, Result, Ok, Err, append_assoc, length-drop}
 use Rattle.std.proofs.lemmas.List.{take_rest, take-append-drop, length-take-le, append-nil, drop_all}
-use Rattle.pv_values.specs.declared.refusal.Place.{Place}
 use Rattle.pv_values.specs.declared.refusal.ScriptFault.{ScriptFault}
 use Rattle.pv_values.specs.declared.refusal.ScriptFault.TheVariants.{Refused, NoMemory}
 use Rattle.cfg_tree.specs.declared.token.Token.{Token}
@@ -15,7 +14,7 @@ use Rattle.cfg_lex.specs.declared.shape.Wrong.{Wrong}
 use Rattle.cfg_lex.specs.declared.shape.Wrong.TheVariants.{BadByte, Unclosed}
 use Rattle.cfg_lex.specs.Contexts as contexts
 use Rattle.cfg_lex.specs.Shapes.{found_at, lexeme_of, begins_line, refused}
-use Rattle.cfg_lex.specs.Tokens.{IsGap, NoSpecial, IsToken, IsFault, place, HasTokens, at_the_end, gap, token, FirstFault, here, behind_gap, behind_token, longest, TokensOf, FaultOf, inside, IsFaultOf}
+use Rattle.cfg_lex.specs.Tokens.{IsToken, place, HasTokens, at_the_end, gap, token, FirstFault, here, behind_gap, behind_token, longest, TokensOf, FaultOf, inside, IsFaultOf}
 use Rattle.cfg_lex.proofs.FoundLaw.{Finds, found_finds}
 
 -- what was read before is the front of the text's tokens, and no fault stands before this place
@@ -39,7 +38,7 @@ finds_here : (text : List ℕ) (i : ℕ) (context : Context) (r : Result Found W
     Finds (begins_line text i) context (drop i text) r
 finds_here text i context r lt h =
     subst (λ q. Finds (begins_line text i) context (drop i text) q) (read_here text i context r h)
-      (found_finds (begins_line text i) context (drop i text) (omega (arith, length-drop i text)))
+    (found_finds (begins_line text i) context (drop i text) (omega (arith, length-drop i text)))
 
 pub seen_gap : (text : List ℕ) (i : ℕ) (context : Context) (front : List Token) (n : ℕ) → Seen text i context front → i < length text →
     Read text i context (Ok (found.Gap n)) → n ≤ length text - i → Seen text (i + n) context front

@@ -1,12 +1,9 @@
 -- Strings: the relation and the reading function agree.
-use Rattle.std.proofs.Common.{◌≡◌, ◌≢◌, ℕ, suc, ◌+◌, ◌-◌, Bool, true, false, List, [], ◌∷◌, ◌++◌, length, take, drop, refl, sym, subst, ap, ◌∙◌, inl, inr, arith, Option, Some, None, Result, Err, length-append, append_assoc}
+use Rattle.std.proofs.Common.{◌≡◌, ◌≢◌, ℕ, ◌+◌, ◌-◌, Bool, true, false, List, [], ◌∷◌, ◌++◌, length, take, drop, refl, sym, subst, ap, ◌∙◌, inl, inr, arith, Option, Some, None, Err, length-append, append_assoc}
 use Rattle.std.specs.Prelude.{map}
-use Rattle.std.specs.List.{flat_map, AllByRecursion}
-use Rattle.std.proofs.lemmas.List.{take_at, drop_at, append-nil}
-use Rattle.cfg_tree.specs.declared.token.Lexeme.{Lexeme}
+use Rattle.std.specs.List.{AllByRecursion}
+use Rattle.std.proofs.lemmas.List.{take_at, drop_at}
 use Rattle.cfg_tree.specs.declared.token.Lexeme.TheVariants as lexeme
-use Rattle.cfg_lex.specs.declared.shape.Found.{Found}
-use Rattle.cfg_lex.specs.declared.shape.Wrong.{Wrong}
 use Rattle.cfg_lex.specs.declared.shape.Wrong.TheVariants.{Unclosed}
 use Rattle.cfg_lex.specs.declared.shape.Shape.TheVariants as shape
 use Rattle.cfg_lex.specs.Bytes.{is_quote}
@@ -16,7 +13,7 @@ use Rattle.cfg_lex.specs.Tokens.{Part, Escaped, meant, IsPart, IsKnown, parts, q
 use Rattle.cfg_lex.specs.Tokens as tokens
 use Rattle.cfg_lex.proofs.ReadLaw.{Reads, token, ReadsToken, same_fault, same_token}
 use Rattle.cfg_lex.proofs.Bytewise.{at_quote, no_slash}
-use Rattle.cfg_lex.proofs.QuoteLaw.{Closed, quote_again, quote_taken, open_again, open_end, open_slash, open_taken, known_again, known_taken, bad_again, bad_taken, meant_again}
+use Rattle.cfg_lex.proofs.QuoteLaw.{quote_again, quote_taken, open_again, open_taken, known_again, known_taken, bad_again, bad_taken, meant_again}
 
 -- a closed string and what stands behind it, without the first quote
 closed_text : (q : ℕ) (ps : List Part) (rest : List ℕ) → (parts ps ++ q ∷ []) ++ rest ≡ parts ps ++ q ∷ rest

@@ -1,9 +1,8 @@
 -- Each text has tokens, or a first fault.
-use Rattle.std.proofs.Common.{◌≡◌, ◌⊎◌, ℕ, zero, suc, ◌+◌, ◌-◌, ◌<◌, ◌≤◌, List, [], ◌∷◌, ◌++◌, length, take, drop, refl, sym, subst, ap, ◌∙◌, inl, inr, arith, Result, Ok, Err, length-append}
+use Rattle.std.proofs.Common.{◌≡◌, ◌⊎◌, ℕ, zero, suc, ◌+◌, ◌<◌, List, [], ◌∷◌, ◌++◌, length, take, drop, refl, sym, ap, ◌∙◌, inl, inr, arith, Result, Ok, Err}
 use Rattle.std.proofs.lemmas.Bool.{cases_lt}
 use Rattle.std.proofs.lemmas.List.{take-append-drop}
 use Rattle.pv_values.specs.declared.refusal.Place.{Place}
-use Rattle.pv_values.specs.declared.refusal.ScriptFault.{ScriptFault}
 use Rattle.pv_values.specs.declared.refusal.ScriptFault.TheVariants.{Refused}
 use Rattle.cfg_tree.specs.declared.token.Token.{Token}
 use Rattle.cfg_tree.specs.declared.token.Lexeme.{Lexeme}
@@ -14,7 +13,7 @@ use Rattle.cfg_lex.specs.declared.shape.Found.TheVariants as found
 use Rattle.cfg_lex.specs.declared.shape.Wrong.{Wrong}
 use Rattle.cfg_lex.specs.declared.shape.Wrong.TheVariants.{BadByte, Unclosed}
 use Rattle.cfg_lex.specs.Contexts as contexts
-use Rattle.cfg_lex.specs.Shapes.{found_at, lexeme_of, begins_line}
+use Rattle.cfg_lex.specs.Shapes.{lexeme_of, begins_line}
 use Rattle.cfg_lex.specs.Tokens.{IsGap, NoSpecial, IsToken, IsFault, place, HasTokens, at_the_end, gap, token, FirstFault, here, behind_gap, behind_token, longest, TokensOf, FaultOf, too_long, inside}
 use Rattle.cfg_lex.proofs.FoundLaw.{Finds, found_finds}
 use Rattle.cfg_lex.proofs.Walk.{gap_some, token_some, left}
@@ -53,7 +52,7 @@ found_ends text i context xs (Ok (found.Token s n)) e h more =
     let some = token_some context _ _ _ h in
     let len = ap length e in
     token_ends text i context (take n xs) (drop n xs) (lexeme_of xs s n) whole h
-      (more (i + length (take n xs)) (contexts.behind context (lexeme_of xs s n)) (omega (arith, l, some, len)))
+    (more (i + length (take n xs)) (contexts.behind context (lexeme_of xs s n)) (omega (arith, l, some, len)))
 found_ends text i context xs (Err (BadByte from to)) e h more = fault_ends text i context xs 1 from to e h
 found_ends text i context xs (Err Unclosed) e h more = fault_ends text i context xs 2 0 (length xs) e h
 

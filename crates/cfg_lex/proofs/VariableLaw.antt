@@ -14,7 +14,7 @@ use Rattle.cfg_lex.specs.Variables.{opened_behind, closes, variable_of, with_inn
 use Rattle.cfg_lex.proofs.EndLaw.{map_some}
 use Rattle.cfg_lex.proofs.Closings.{closed, ones, open_on}
 use Rattle.cfg_lex.specs.Shapes.{bad, variable_to, dollar_at, ordinary_at, lexeme_of}
-use Rattle.cfg_lex.specs.Tokens.{IsOrdinary, variable, IsFault, open_variable, stray_dollar}
+use Rattle.cfg_lex.specs.Tokens.{IsOrdinary, variable, open_variable, stray_dollar}
 use Rattle.cfg_lex.proofs.ReadLaw.{Reads, token, ReadsToken, same_fault}
 use Rattle.cfg_lex.proofs.PictureLaw.{pictured, form_is}
 use Rattle.cfg_lex.proofs.Bytewise.{at_dollar}

@@ -1,6 +1,5 @@
 -- A text is walked in one way: it has one list of tokens, or one first fault.
-use Rattle.std.proofs.Common.{◌≡◌, ◌≢◌, ◌⊎◌, ℕ, zero, suc, ◌+◌, ◌-◌, ◌<◌, ◌≤◌, Bool, List, [], ◌∷◌, ◌++◌, length, drop, refl, sym, subst, ap, ◌∙◌, arith, Some, None, Result, Ok, Err, inl, inr, length-append, length-drop}
-use Rattle.std.specs.List.{flat_map}
+use Rattle.std.proofs.Common.{◌≡◌, ◌⊎◌, ℕ, zero, suc, ◌+◌, ◌-◌, ◌<◌, ◌≤◌, Bool, List, [], ◌∷◌, ◌++◌, length, drop, refl, sym, ap, ◌∙◌, arith, Result, Ok, Err, inl, inr, length-append, length-drop}
 use Rattle.std.specs.Prelude.{IfOk, IfErr, MatchResult}
 use Rattle.pv_values.specs.declared.refusal.Place.{Place}
 use Rattle.std.proofs.lemmas.Bool.{cases_lt}
@@ -12,7 +11,6 @@ use Rattle.cfg_tree.specs.declared.token.Lexeme.{Lexeme}
 use Rattle.cfg_tree.specs.declared.setting.Listen.{Listen}
 use Rattle.cfg_lex.specs.declared.context.Context.{Context}
 use Rattle.cfg_lex.specs.declared.context.Context.TheVariants.{Plain}
-use Rattle.cfg_lex.specs.declared.shape.Shape.{Shape}
 use Rattle.cfg_lex.specs.declared.shape.Found.{Found}
 use Rattle.cfg_lex.specs.declared.shape.Found.TheVariants as found
 use Rattle.cfg_lex.specs.declared.shape.Wrong.{Wrong}

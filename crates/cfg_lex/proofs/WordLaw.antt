@@ -1,5 +1,5 @@
 -- Words and numbers: the relation and the reading function agree.
-use Rattle.std.proofs.Common.{◌≡◌, ℕ, suc, pos, ◌+◌, ◌<◌, ◌≤◌, Bool, true, false, List, [], ◌∷◌, ◌++◌, length, take, drop, ◌==◌, nat_le, refl, sym, subst, ap, ◌∙◌, inl, inr, arith, Option, Some, None, if◌then◌else◌}
+use Rattle.std.proofs.Common.{◌≡◌, ℕ, suc, pos, ◌<◌, ◌≤◌, Bool, true, false, List, [], ◌∷◌, ◌++◌, length, take, drop, nat_le, refl, ap, ◌∙◌, inl, inr, arith, Option, Some, None, if◌then◌else◌}
 use Rattle.std.specs.List.{prefix_len, list_all, AllByRecursion}
 use Rattle.std.specs.Char.{is_ascii_digit, is_digit}
 use Rattle.std.specs.Str.Parse.{digits_value, starts_with_minus}
@@ -10,12 +10,12 @@ use Rattle.std.proofs.lemmas.List.Folds.{length-prefix_len}
 use Rattle.pv_values.specs.Numbers.{in_range, number_in}
 use Rattle.cfg_tree.specs.declared.token.Lexeme.TheVariants as lexeme
 use Rattle.cfg_tree.specs.declared.token.Keyword as keyword
-use Rattle.cfg_tree.specs.Variables.{begins_name, goes_on, name_len}
+use Rattle.cfg_tree.specs.Variables.{begins_name, goes_on}
 use Rattle.cfg_lex.specs.declared.shape.Shape.TheVariants as shape
 use Rattle.cfg_lex.specs.Words.{keyword_of}
 use Rattle.cfg_lex.specs.Numbers.{greatest}
 use Rattle.cfg_lex.specs.Shapes.{bad, word_shape, word_at, number_at, ordinary_at, lexeme_of}
-use Rattle.cfg_lex.specs.Tokens.{IsRun, IsNamed, AreDigits, IsOrdinary, name, word, number, IsFault, large_number}
+use Rattle.cfg_lex.specs.Tokens.{IsRun, IsNamed, AreDigits, name, word, number, large_number}
 use Rattle.cfg_lex.proofs.ReadLaw.{Reads, token, ReadsToken, same_fault}
 use Rattle.cfg_lex.proofs.RunLaw.{run_is, run_taken}
 use Rattle.cfg_lex.proofs.Bytewise.{differs, at_word, at_digit}

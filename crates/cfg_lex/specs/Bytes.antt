@@ -1,5 +1,5 @@
 -- The classes of bytes of which the language has runs.
-use Rattle.std.specs.Prelude.{ℕ, ◌==◌, Bool, not, ◌||◌, List, [], ◌∷◌, codes}
+use Rattle.std.specs.Prelude.{ℕ, ◌==◌, Bool, not, ◌||◌, codes}
 use Rattle.std.specs.Char.{is_ascii_alphanumeric, is_ascii_digit}
 use Rattle.sip_words.specs.Bytes.{is_one_of}
 use Rattle.cfg_tree.specs.Variables.{goes_on}

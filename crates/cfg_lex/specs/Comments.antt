@@ -2,7 +2,7 @@
 use Rattle.std.specs.Prelude.{ℕ, ◌+◌, ◌==◌, Bool, false, ◌&&◌, not, List, [], ◌∷◌, take, drop, Option, Some, None, option_map, codes, if◌then◌else◌}
 use Rattle.std.specs.List.{prefix_len, list_any}
 use Rattle.std.specs.Str.{bytes_eq}
-use Rattle.cfg_tree.specs.Variables.{goes_on, before, begins_with}
+use Rattle.cfg_tree.specs.Variables.{goes_on, begins_with}
 
 -- the words behind a `#!` at a line's beginning with which it is a comment
 abbrev pub dialects : List (List ℕ)

@@ -1,5 +1,5 @@
 -- What the tokens before a place allow at it.
-use Rattle.std.specs.Prelude.{ℕ, Bool, true, false, List, codes, if◌then◌else◌}
+use Rattle.std.specs.Prelude.{ℕ, List, codes, if◌then◌else◌}
 use Rattle.std.specs.Str.{bytes_eq}
 use Rattle.cfg_tree.specs.declared.token.Lexeme.{Lexeme}
 use Rattle.cfg_tree.specs.declared.token.Lexeme.TheVariants as lexeme

@@ -1,5 +1,5 @@
 -- LISTEN: `udp:IP:PORT`.
-use Rattle.std.specs.Prelude.{ℕ, ◌+◌, Bool, ◌&&◌, nat_le, length, List, [], ◌∷◌, take, Option, Some, None, nat_lt, codes, if◌then◌else◌}
+use Rattle.std.specs.Prelude.{ℕ, ◌+◌, Bool, ◌&&◌, nat_le, length, List, take, Option, Some, None, nat_lt, codes, if◌then◌else◌}
 use Rattle.std.specs.Str.{bytes_eq}
 use Rattle.sip_words.specs.Words.{◌>>=◌, stands}
 use Rattle.sip_words.specs.Numbers.{number_at}

@@ -1,5 +1,5 @@
 -- Operators and brackets: those of two bytes, and those of one.
-use Rattle.std.specs.Prelude.{ℕ, ◌==◌, Bool, ◌&&◌, List, Option, Some, None, if◌then◌else◌}
+use Rattle.std.specs.Prelude.{ℕ, ◌==◌, ◌&&◌, Option, Some, None, if◌then◌else◌}
 use Rattle.cfg_tree.specs.declared.token.Mark as marks
 use Rattle.cfg_tree.specs.declared.token.Mark.TheVariants.{OpenRound, CloseRound, OpenSquare, CloseSquare, OpenCurly, CloseCurly, Comma, Semicolon, Colon, Assign, Equal, NotEqual, Less, Greater, LessOrEqual, GreaterOrEqual, Matches, Or, And, Not, Plus, Minus, Times, Divide}
 

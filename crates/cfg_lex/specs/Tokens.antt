@@ -16,9 +16,8 @@ use Rattle.cfg_tree.specs.declared.token.Lexeme.{Lexeme}
 use Rattle.cfg_tree.specs.declared.token.Lexeme.TheVariants as lexeme
 use Rattle.cfg_tree.specs.declared.token.Keyword as keyword
 use Rattle.cfg_tree.specs.declared.token.Mark as marks
-use Rattle.cfg_tree.specs.declared.token.Mark.TheVariants as mark
 use Rattle.cfg_tree.specs.declared.setting.Listen.{Listen}
-use Rattle.cfg_tree.specs.Variables.{begins_name, goes_on, begins_with, variable_at}
+use Rattle.cfg_tree.specs.Variables.{begins_name, goes_on, variable_at}
 use Rattle.cfg_lex.specs.declared.context.Context.{Context}
 use Rattle.cfg_lex.specs.declared.context.Context.TheVariants.{Plain, Address, BlockName, BehindListen, BehindRoute}
 use Rattle.cfg_lex.specs.Bytes.{is_blank, is_block_byte, is_quote}

@@ -1,7 +1,7 @@
 -- Where the parts of a variable stand, and where a text ends inside its brackets.
 use Rattle.std.specs.Prelude.{ℕ, ◌+◌, ◌-◌, ◌==◌, Bool, true, not, ◌&&◌, nat_le, is_none, List, [], ◌∷◌, length, take, drop, Option, Some, None, option_map, IfSome, ◌≤◌, if◌then◌else◌}
 use Rattle.cfg_tree.specs.declared.token.Variable.{Variable}
-use Rattle.cfg_tree.specs.Variables.{name_len, begins_with, before, before_close, named_at}
+use Rattle.cfg_tree.specs.Variables.{name_len, begins_with, before, before_close}
 use Rattle.cfg_lex.specs.declared.variable.Part.{Part}
 use Rattle.cfg_lex.specs.declared.variable.Form.{Form}
 

@@ -1,6 +1,6 @@
 use Rattle.std.proofs.Common.{◌≡◌, ◌∙◌, ap, sym, arith, Some, None, option_map}
 use Rattle.cfg_lex.specs.Pieces.{shown}
-use Rattle.cfg_lex.proofs.PieceLaw.{piece_next, piece_none, piece_end, front_none}
+use Rattle.cfg_lex.proofs.PieceLaw.{piece_next, piece_none, piece_end}
 use Rattle.cfg_lex.proofs.piece.pieces.Goals as goal
 
 pub returns-in_default : goal.returns-in_default

@@ -1,8 +1,8 @@
-use Rattle.std.proofs.Common.{◌≡◌, length, length-drop, length-take, take, drop, ◌-◌, List, ℕ, arith, Err, Ok, subst, Bool}
+use Rattle.std.proofs.Common.{◌≡◌, length, take, drop, ◌-◌, arith, Ok, subst}
 use Rattle.cfg_lex.specs.declared.shape.Found.TheVariants.{Gap, Token}
 use Rattle.cfg_lex.specs.Shapes.{FitsIn}
 use Rattle.cfg_lex.specs.Tokens.{too_long}
-use Rattle.cfg_lex.proofs.Reading.{Read, as_read, rest_len, seen_first, seen_gap, seen_token, seen_end, seen_fault, fault_of}
+use Rattle.cfg_lex.proofs.Reading.{Read, as_read, rest_len, seen_gap, seen_token, seen_end, seen_fault, fault_of}
 use Rattle.cfg_lex.proofs.reader.tokens_in.Goals as goal
 
 pub returns-then-text-gt-LONGEST-clause-fault : goal.returns-then-text-gt-LONGEST-clause-fault
