@@ -1,0 +1,6 @@
+-- Decimal numbers.
+use Rattle.std.specs.Prelude.{ℕ}
+
+-- the greatest number that a script writes
+abbrev pub greatest : ℕ
+greatest = 9223372036854775807
