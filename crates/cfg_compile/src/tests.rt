@@ -1,4 +1,6 @@
-// Instructions of scripts, written down by hand.
+// Instructions of scripts, written down by hand, and runs of them.
+
+mod runs;
 
 use crate::compile;
 use cfg_code::{Instr, Loaded};

@@ -1,0 +1,159 @@
+// Runs of scripts, from their trees to how they end, worked out by hand.
+
+use super::{call, chain, compiled, host, not, number, one, script, set, two, var, when};
+use crate::compile;
+use cfg_code::Loaded;
+use cfg_tree::{Expr, Stmt};
+use pv_values::{BinOp, Env, Func, HostAnswer, HostAsk, How, PvUse, Val, Vals};
+use script_vm::{Played, play};
+use sqlite_items::{Boxed, Items};
+use std::alloc::{AllocError, Global};
+use std::test::Fail;
+
+/// What a run of block 0 comes to, with one variable that is 0.
+fn played(alloc: Global, loaded: &Loaded, answers: &[HostAnswer]) -> Result<Played, AllocError> {
+    let mut vars = Vals::new(alloc);
+    vars.push(Val::Int(0))?;
+    Ok(play(alloc, loaded, 0, Env { vars, rc: 0 }, answers))
+}
+
+/// It ended so after so many answers, with this variable.
+fn ended(played: Played, wanted: How, count: usize, n: i64) -> bool {
+    match played {
+        Played::Ended(env, how, taken) => {
+            how == wanted
+                && taken == count
+                && matches!(env.vars.as_slice(), [Val::Int(m)] if *m == n)
+        }
+        _ => false,
+    }
+}
+
+/// `$var(i) = 0; while ($var(i) < N) { $var(i) = $var(i) + 1; }`
+fn counts_to(alloc: Global, n: i64) -> Result<Items<Stmt>, AllocError> {
+    let more = chain(alloc, var(0), BinOp::Add, number(1))?;
+    let body = one(alloc, set(0, more))?;
+    let test = chain(alloc, var(0), BinOp::Lt, number(n))?;
+    two(alloc, set(0, number(0)), Stmt::While(test, body))
+}
+
+#[test]
+fn a_loop_makes_a_hundred_rounds(rt: HostRuntime) -> Result<(), Fail> {
+    let alloc = rt.alloc();
+    let hundred = compiled(alloc, counts_to(alloc, 100)?)?;
+    assert!(rt; ended(played(alloc, &hundred, &[])?, How::Normal, 0, 100));
+    let more = compiled(alloc, counts_to(alloc, 101)?)?;
+    assert!(rt; ended(played(alloc, &more, &[])?, How::LoopLimit, 0, 100));
+    Ok(())
+}
+
+/// `route(Z); $var(a) = 1;` with `route[Z] { return 0; }`
+#[test]
+fn a_route_of_code_0_ends_the_run(rt: HostRuntime) -> Result<(), Fail> {
+    let alloc = rt.alloc();
+    let first = two(alloc, Stmt::Do(Expr::Route(1)), set(0, number(1)))?;
+    let second = one(alloc, Stmt::Return(Some(number(0))))?;
+    let blocks = two(alloc, first, second)?;
+    let loaded = compile(alloc, script(alloc, blocks))?;
+    assert!(rt; ended(played(alloc, &loaded, &[])?, How::Exit, 0, 0));
+    Ok(())
+}
+
+/// `$var(d) = $var(d) + 1; route(D);`, as `route[D]` itself, and called by the first block.
+#[test]
+fn calls_are_nested_256_deep(rt: HostRuntime) -> Result<(), Fail> {
+    let alloc = rt.alloc();
+    let more = chain(alloc, var(0), BinOp::Add, number(1))?;
+    let first = one(alloc, Stmt::Do(Expr::Route(1)))?;
+    let second = two(alloc, set(0, more), Stmt::Do(Expr::Route(1)))?;
+    let blocks = two(alloc, first, second)?;
+    let loaded = compile(alloc, script(alloc, blocks))?;
+    assert!(rt; ended(played(alloc, &loaded, &[])?, How::DepthLimit, 0, 256));
+    Ok(())
+}
+
+/// `while (1) { .. }` with a hundred times `$var(a) = $var(a) + 1;`, where a loop may make 1,000 rounds.
+fn long_loop(alloc: Global) -> Result<Loaded, AllocError> {
+    let mut body = Items::new(alloc);
+    for _ in 0..100 {
+        let more = chain(alloc, var(0), BinOp::Add, number(1))?;
+        body.push(set(0, more))?;
+    }
+    let block = one(alloc, Stmt::While(number(1), body))?;
+    let blocks = one(alloc, block)?;
+    let mut whole = script(alloc, blocks);
+    whole.parameters.max_while_loops = 1000;
+    compile(alloc, whole)
+}
+
+/// 990 rounds with their tests are 99,990 statements; then come a test and nine assignments.
+#[test]
+fn a_run_begins_100000_statements(rt: HostRuntime) -> Result<(), Fail> {
+    let alloc = rt.alloc();
+    let loaded = long_loop(alloc)?;
+    assert!(rt; ended(played(alloc, &loaded, &[])?, How::ActionLimit, 0, 99009));
+    Ok(())
+}
+
+/// `if (9223372036854775807 + 1 == $null) $var(a) = 1;`
+#[test]
+fn a_sum_past_64_bits_is_null(rt: HostRuntime) -> Result<(), Fail> {
+    let alloc = rt.alloc();
+    let sum = chain(alloc, number(9223372036854775807), BinOp::Add, number(1))?;
+    let test = chain(alloc, sum, BinOp::Eq, host(PvUse::Null))?;
+    let then = one(alloc, set(0, number(1)))?;
+    let block = one(alloc, when(alloc, test, then))?;
+    let loaded = compiled(alloc, block)?;
+    let asks = played(alloc, &loaded, &[])?;
+    assert!(rt; matches!(asks, Played::Needs(HostAsk::Read(PvUse::Null))));
+    let null = [HostAnswer::Value(Val::Null)];
+    assert!(rt; ended(played(alloc, &loaded, &null)?, How::Normal, 1, 1));
+    Ok(())
+}
+
+/// `$var(a) = -7 mod 2;`
+#[test]
+fn a_rest_has_the_left_ones_sign(rt: HostRuntime) -> Result<(), Fail> {
+    let alloc = rt.alloc();
+    let least = Expr::Negative(Boxed::new(alloc, number(7))?);
+    let rest = chain(alloc, least, BinOp::Rem, number(2))?;
+    let block = one(alloc, set(0, rest))?;
+    let loaded = compiled(alloc, block)?;
+    assert!(rt; ended(played(alloc, &loaded, &[])?, How::Normal, 0, -1));
+    Ok(())
+}
+
+/// `if (!t_relay()) $var(a) = 5;`: the code -2 is false, and 0 ends the run.
+#[test]
+fn a_call_is_true_above_0(rt: HostRuntime) -> Result<(), Fail> {
+    let alloc = rt.alloc();
+    let test = not(alloc, call(alloc, Func::TRelay))?;
+    let then = one(alloc, set(0, number(5)))?;
+    let block = one(alloc, when(alloc, test, then))?;
+    let loaded = compiled(alloc, block)?;
+    assert!(rt;
+        ended(
+            played(alloc, &loaded, &[HostAnswer::Code(1)])?,
+            How::Normal,
+            1,
+            0
+        )
+    );
+    assert!(rt;
+        ended(
+            played(alloc, &loaded, &[HostAnswer::Code(-2)])?,
+            How::Normal,
+            1,
+            5
+        )
+    );
+    assert!(rt;
+        ended(
+            played(alloc, &loaded, &[HostAnswer::Code(0)])?,
+            How::Exit,
+            1,
+            0
+        )
+    );
+    Ok(())
+}

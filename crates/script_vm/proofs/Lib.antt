@@ -1,0 +1,4 @@
+pub mod Leaves
+pub mod Measure
+pub mod Goes
+pub mod Plays

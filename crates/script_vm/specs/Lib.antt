@@ -1,0 +1,3 @@
+pub mod Running
+pub mod Measure
+pub mod Play
