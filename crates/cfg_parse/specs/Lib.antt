@@ -1,0 +1,5 @@
+pub mod Reader
+pub mod Calls
+pub mod Exprs
+pub mod Stmts
+pub mod Script
