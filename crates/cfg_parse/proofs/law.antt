@@ -1,0 +1,10 @@
+pub mod Steps
+pub mod Several
+pub mod OneToken
+pub mod Arguments
+pub mod Calls
+pub mod Links
+pub mod Joins
+pub mod Operators
+pub mod Atoms
+pub mod ExprTakes
