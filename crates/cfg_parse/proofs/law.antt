@@ -8,3 +8,10 @@ pub mod Joins
 pub mod Operators
 pub mod Atoms
 pub mod ExprTakes
+pub mod Places
+pub mod Behind
+pub mod Simple
+pub mod StmtTakes
+pub mod Kinds
+pub mod ItemTakes
+pub mod Law

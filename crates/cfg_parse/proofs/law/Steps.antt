@@ -57,7 +57,7 @@ pub record OneToken {A : Type 0} (P : Token → A → Type 0) (ts : List Token) 
 
 -- ---- marks and keywords
 
-mark_is : (m : Mark) (x : Lexeme) → is_mark m x ≡ true → x ≡ lexeme.Mark m
+pub mark_is : (m : Mark) (x : Lexeme) → is_mark m x ≡ true → x ≡ lexeme.Mark m
 mark_is m (lexeme.Mark n) h = ap (λ (k : Mark). lexeme.Mark k) (sym (same_true mark.the_type tt m n h))
 mark_is m _ h = absurd (both_ways false refl h)
 
@@ -93,14 +93,14 @@ eaten {A} {Q} m (t ∷ ts) p q f g = by (is_mark m t.lexeme) refl
     by true h = f t ts refl (mark_is m t.lexeme h)
     by false h = g
 
-pub eaten_word : {A : Type 0} {Q : A → List Token → Type 0} (k : Keyword) (ts : List Token) (p q : Reader A) → ((t : Token) (mid : List Token) → ts ≡ t ∷ mid → IsKeyword k t → OnRead Q (p mid)) → OnRead Q (q ts) → OnRead Q ((if sees_keyword k ts then p else q) (after (sees_keyword k ts) ts))
+pub eaten_word : {A : Type 0} {Q : A → List Token → Type 0} (k : Keyword) (ts : List Token) (p q : Reader A) → ((t : Token) (mid : List Token) → ts ≡ t ∷ mid → IsKeyword k t → OnRead Q (p mid)) → (sees_keyword k ts ≡ false → OnRead Q (q ts)) → OnRead Q ((if sees_keyword k ts then p else q) (after (sees_keyword k ts) ts))
 unfolding sees_keyword first
-eaten_word k [] p q f g = g
+eaten_word k [] p q f g = g refl
 eaten_word {A} {Q} k (t ∷ ts) p q f g = by (is_keyword k t.lexeme) refl
   where
     by : (b : Bool) → is_keyword k t.lexeme ≡ b → OnRead Q ((if b then p else q) (after b (t ∷ ts)))
     by true h = f t ts refl (keyword_is k t.lexeme h)
-    by false h = g
+    by false h = g h
 
 -- ---- where the next token is known
 
