@@ -1,10 +1,10 @@
 -- Readers of tokens: each reads the front of a list of tokens as a value, and leaves the rest.
-use Rattle.std.specs.Prelude.{◌≡◌, ℕ, zero, suc, ◌-◌, Bool, true, false, List, [], ◌∷◌, ◌++◌, length, take, drop, Option, Some, None, Result, Ok, Err, if◌then◌else◌}
+use Rattle.std.specs.Prelude.{◌≡◌, ◌≢◌, ℕ, zero, suc, ◌-◌, Bool, true, false, List, [], ◌∷◌, ◌++◌, length, take, drop, Option, Some, None, Result, Ok, Err, if◌then◌else◌}
 use Rattle.std.specs.Option.{option_map}
 use denote.Enum.Bare.{sameb}
 use Rattle.pv_values.specs.declared.refusal.Place.{Place}
-use Rattle.pv_values.specs.declared.refusal.ScriptFault.{ScriptFault}
-use Rattle.pv_values.specs.declared.refusal.ScriptFault.TheVariants as fault
+use Rattle.cfg_parse.specs.declared.fault.Fault.{Fault}
+use Rattle.cfg_parse.specs.declared.fault.Fault.TheVariants.{NoMemory}
 use Rattle.cfg_tree.specs.declared.token.Token.{Token}
 use Rattle.cfg_tree.specs.declared.token.Lexeme.{Lexeme}
 use Rattle.cfg_tree.specs.declared.token.Lexeme.TheVariants as lexeme
@@ -42,14 +42,22 @@ refuse = λ ts. None
 
 -- ---- the next token
 
+unfoldable pub next : List Token → Option Token
+next [] = None
+next (t ∷ ts) = Some t
+
 -- what it is, if there is one
 unfoldable pub first : List Token → Option Lexeme
 first [] = None
 first (t ∷ ts) = Some t.lexeme
 
--- passes it
+-- the tokens behind it
+unfoldable pub passed : List Token → List Token
+passed [] = []
+passed (t ∷ ts) = ts
+
 abbrev pub pass : Reader (Unit {0})
-pass = λ ts. Some (tt, drop 1 ts)
+pass = λ ts. Some (tt, passed ts)
 
 -- what is read from it, by what it is and where it stands
 unfoldable pub one : {A : Type 0} → (Lexeme → Place → Option A) → Reader A
@@ -77,7 +85,7 @@ sees_keyword k ts = holds_for (is_keyword k) (first ts)
 
 -- passes the next token, if the test holds
 abbrev pub after : Bool → List Token → List Token
-after true ts = drop 1 ts
+after true ts = passed ts
 after false ts = ts
 
 abbrev pub eat_mark : Mark → Reader Bool
@@ -88,10 +96,10 @@ eat_keyword k = λ ts. Some (sees_keyword k ts, after (sees_keyword k ts) ts)
 
 -- the next token is this mark, or this keyword
 unfoldable pub mark_of : Mark → Reader (Unit {0})
-mark_of m = λ ts. if sees_mark m ts then Some (tt, drop 1 ts) else None
+mark_of m = λ ts. if sees_mark m ts then Some (tt, passed ts) else None
 
 unfoldable pub keyword_of : Keyword → Reader (Unit {0})
-keyword_of k = λ ts. if sees_keyword k ts then Some (tt, drop 1 ts) else None
+keyword_of k = λ ts. if sees_keyword k ts then Some (tt, passed ts) else None
 
 -- what a mark or a keyword begins, if it comes next
 abbrev pub behind_mark : {A : Type 0} → Mark → Reader A → Reader (Option A)
@@ -135,7 +143,7 @@ many step found = λ ts. many_from step (length ts) found ts
 
 -- ---- what a function answers that reads so
 
-abbrev pub Reads : {A : Type 0} → Option (A × List Token) → Result A ScriptFault → List Token → Type 0
+-- the value that is read, with the rest; or a fault where none is. Want of memory may come at any time.
+abbrev pub Reads : {A : Type 0} → Option (A × List Token) → Result A Fault → List Token → Type 0
 Reads found (Ok a) rest = found ≡ Some (a, rest)
-Reads found (Err fault.NoMemory) rest = Unit {0}
-Reads found (Err (fault.Refused kind at)) rest = (found ≡ None) × (kind ≡ 3)
+Reads found (Err fault) rest = fault ≢ NoMemory → found ≡ None

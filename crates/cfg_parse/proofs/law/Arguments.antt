@@ -11,7 +11,7 @@ use Rattle.cfg_tree.specs.declared.raw.RawArg.{RawArg}
 use Rattle.cfg_tree.specs.declared.raw.RawArg.TheVariants as arg
 use Rattle.cfg_tree.specs.Tokens.{IsA, IsMark}
 use Rattle.cfg_tree.specs.Grammar.{ArgIs, string_arg, number_arg, negative_arg, variable_arg, ArgsAre, last_arg, more_args}
-use Rattle.cfg_parse.specs.Reader.{Reader, first, one, pass, behind_mark, sees_mark}
+use Rattle.cfg_parse.specs.Reader.{Reader, first, one, pass, passed, behind_mark, sees_mark}
 use Rattle.cfg_parse.specs.Calls.{arg_by, number, string, variable, argument, more_arguments, arguments}
 use Rattle.cfg_parse.proofs.law.Steps.{OnRead, nothing, found, and_so, read_then, Front, Takes, OneToken, mark_takes, eaten, sees, unseen, mark_again, eats, leaves, by_first}
 use Rattle.cfg_parse.proofs.law.Several.{Several, none, more, OnStep, behind_takes, many_again}
@@ -21,7 +21,7 @@ negative : (m t : Token) (n : ℤ) → IsMark mark.Minus m → NumberIs t n → 
 negative m _ _ h (number_is t n k) = negative_arg m t n h k
 
 arg_found : (x : Lexeme) (at : Place) (ts : List Token) → OnRead (Front ArgIs (record { lexeme = x; at = at } ∷ ts)) (arg_by (Some x) (record { lexeme = x; at = at } ∷ ts))
-unfolding string number variable one
+unfolding string number variable one passed
 arg_found (lexeme.String s) at ts = let t : Token = record { lexeme = lexeme.String s; at = at } in found _ ts (record { front = t ∷ []; whole = refl; is = string_arg t s refl })
 arg_found (lexeme.Number (pos n)) at ts = let t : Token = record { lexeme = lexeme.Number (pos n); at = at } in found _ ts (record { front = t ∷ []; whole = refl; is = number_arg t n refl })
 arg_found (lexeme.Number (negsuc n)) at ts = nothing
@@ -37,7 +37,7 @@ arg_takes [] = nothing
 arg_takes (t ∷ ts) = arg_found t.lexeme t.at ts
 
 pub arg_again : (us : List Token) (a : RawArg) (rest : List Token) → ArgIs us a → argument (us ++ rest) ≡ Some (a, rest)
-unfolding argument
+unfolding argument passed
 arg_again _ _ rest (string_arg t s h) = by_first arg_by t rest h (read_then _ (string_again t rest _ (string_is t s h)) refl)
 arg_again _ _ rest (number_arg t n h) = by_first arg_by t rest h (read_then _ (number_again t rest _ (number_is t n h)) refl)
 arg_again _ _ rest (negative_arg m t n h k) = by_first arg_by m (t ∷ rest) h (read_then _ (number_again t rest _ (number_is t n k)) refl)
@@ -59,7 +59,7 @@ comma_takes : (ts : List Token) → OnRead (OnStep CommaArg ts) (behind_mark mar
 comma_takes ts = eaten mark.Comma ts _ _ (λ t mid e h. and_so (arg_takes mid) (λ a rest f. found (Some a) rest (record { front = t ∷ f.front; whole = e ∙ ap (λ us. t ∷ us) f.whole; is = comma_arg t f.front a h f.is }))) (found None ts refl)
 
 comma_again : (us : List Token) (a : RawArg) (rest : List Token) → CommaArg us a → Unit {0} → behind_mark mark.Comma argument (us ++ rest) ≡ Some (Some a, rest)
-comma_again _ _ rest (comma_arg c ts a h k) f = eats _ _ (c ∷ ts ++ rest) (sees mark.Comma c (ts ++ rest) h) (read_then _ (arg_again ts a rest k) refl)
+comma_again _ _ rest (comma_arg c ts a h k) f = eats _ _ c (ts ++ rest) (sees mark.Comma c (ts ++ rest) h) (read_then _ (arg_again ts a rest k) refl)
 
 comma_some : (us : List Token) (a : RawArg) → CommaArg us a → 0 < length us
 comma_some _ _ (comma_arg c ts a h k) = omega arith
@@ -98,7 +98,7 @@ args_takes ts = eaten mark.CloseRound ts _ _
 
 pub args_again : (us : List Token) (xs : List RawArg) (rest : List Token) → InBrackets us xs → arguments (us ++ rest) ≡ Some (xs, rest)
 unfolding arguments more_arguments
-args_again _ _ rest (no_args right h) = eats _ _ (right ∷ rest) (sees mark.CloseRound right rest h) refl
+args_again _ _ rest (no_args right h) = eats _ _ right rest (sees mark.CloseRound right rest h) refl
 args_again _ _ rest (with_args ts xs right d h) = by ts xs (parts_of ts xs d)
   where
     by : (ts : List Token) (xs : List RawArg) → Parts ts xs → arguments ((ts ++ right ∷ []) ++ rest) ≡ Some (xs, rest)

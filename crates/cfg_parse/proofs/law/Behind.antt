@@ -18,7 +18,7 @@ pub behind_some : {A : Type 0} (k : Keyword) (P : List Token → A → Type 0) (
 behind_some k P _ _ (behind_word t us a h d) = omega arith
 
 pub behind_again : {A : Type 0} (k : Keyword) (p : Reader A) (t : Token) (ts : List Token) {a : A} {rest : List Token} → IsKeyword k t → p ts ≡ Some (a, rest) → behind_keyword k p (t ∷ ts) ≡ Some (Some a, rest)
-behind_again k p t ts h e = eats _ _ (t ∷ ts) (sees_word k t ts h) (read_then _ e refl)
+behind_again k p t ts h e = eats _ _ t ts (sees_word k t ts h) (read_then _ e refl)
 
 pub behind_none : {A : Type 0} (k : Keyword) (p : Reader A) (ts : List Token) → sees_keyword k ts ≡ false → behind_keyword k p ts ≡ Some (None, ts)
 behind_none k p ts h = leaves _ _ ts h refl

@@ -15,7 +15,7 @@ use Rattle.cfg_tree.specs.declared.raw.RawExpr.TheViews.{roll-RawExpr}
 use Rattle.cfg_tree.specs.Tokens.{IsMark, IsKeyword}
 use Rattle.cfg_tree.specs.Grammar as tree
 use Rattle.cfg_tree.specs.Grammar.{ExprIs, CompareIs, IsExpr, JoinedAre}
-use Rattle.cfg_parse.specs.Reader.{Reader, first}
+use Rattle.cfg_parse.specs.Reader.{Reader, first, passed}
 use Rattle.cfg_parse.specs.Exprs.{factor_operator, term_operator, comparison_operator, is_and, is_or, all, any, is_equal_in, myself, more_factors, product, more_terms, sum, compared_by, compared, comparison_by, comparison, more_of_all, all_of, more_of_any, any_of, bracketed, prefixed_by, prefixed, unary, expr_in, expr}
 use Rattle.cfg_parse.proofs.law.Steps.{OnRead, nothing, found, and_so, Front, Takes, OneToken, mark_takes, keyword_takes, eaten}
 use Rattle.cfg_parse.proofs.law.OneToken.{one_takes, StringIs, string_is, string_takes}
@@ -59,7 +59,7 @@ module _ (room : ℕ) (u : Reader RawExpr) (operand : Takes (ExprIs tree.Unary r
   sum_takes = chained_takes tree.Product tree.Sum room term_operator (product u) refl term_is (tree.one_product room) (tree.sum_of room) product_takes
 
   compared_found : (ts s : List Token) (a : RawExpr) → Front (ExprIs tree.Sum room) ts a s → OnRead (Front (ExprIs tree.Comparison room) ts) (compared_by u a (comparison_operator (first s)) s)
-  unfolding first
+  unfolding first passed
   compared_found ts [] a f = found a [] (record { front = f.front; whole = f.whole; is = tree.one_sum room f.front a f.is })
   compared_found ts (t ∷ s) a f = by (comparison_operator (Some t.lexeme)) (comparison_is t.lexeme t.at)
     where
@@ -111,6 +111,7 @@ module _ (room : ℕ) (u : Reader RawExpr) (operand : Takes (ExprIs tree.Unary r
       }))))
 
   prefixed_found : (x : Lexeme) (at : Place) (ts : List Token) → OnRead (Front (ExprIs tree.Unary (suc room)) (record { lexeme = x; at = at } ∷ ts)) (prefixed_by u (Some x) (record { lexeme = x; at = at } ∷ ts))
+  unfolding passed
   prefixed_found (lexeme.Mark mark.Not) at ts =
       let t : Token = record { lexeme = lexeme.Mark mark.Not; at = at } in
       and_so (operand ts) (λ e rest f. found _ rest (record { front = t ∷ f.front; whole = ap (λ us. t ∷ us) f.whole; is = tree.not_of room f.front t e (inl refl) f.is }))

@@ -16,7 +16,7 @@ use Rattle.cfg_tree.specs.declared.raw.RawItem.TheVariants as item
 use Rattle.cfg_tree.specs.Tokens.{IsA, IsMark, IsKeyword, whole}
 use Rattle.cfg_tree.specs.Grammar as tree
 use Rattle.cfg_tree.specs.Grammar.{EndIs, SettingIs, ValueIs, KindIs, NamedKindIs, HeadIs, StmtsAre, ItemIs, Derives}
-use Rattle.cfg_parse.specs.Reader.{Reader, first, after, is_mark, sees_mark, place_since}
+use Rattle.cfg_parse.specs.Reader.{Reader, first, passed, after, is_mark, sees_mark, place_since}
 use Rattle.cfg_parse.specs.Script.{setting_in, value_in, setting_of, value_of, module_of, module_parameter, parameter, Kinds, route_kinds, kinds_of, alone_by, named_by, head_by, head_of, block, route_in, route_block, named_item, item_by, item_of, next_by, next_item, items, all_read, script_at}
 use Rattle.cfg_parse.proofs.law.Steps.{OnRead, nothing, found, and_so, weaker, Front, Takes, OneToken, mark_is, mark_takes, keyword_takes, eaten}
 use Rattle.cfg_parse.proofs.law.Several.{Several, none, more, OnStep, many_takes}
@@ -28,7 +28,7 @@ use Rattle.cfg_parse.proofs.law.Kinds.{KindsFor, route_kinds_for, name_kinds_for
 -- ---- ends and values
 
 end_taken : (ts : List Token) → (us : List Token) × (ts ≡ us ++ after (sees_mark mark.Semicolon ts) ts) × EndIs us
-unfolding sees_mark first
+unfolding sees_mark first passed
 end_taken [] = ([], refl, tree.no_end)
 end_taken (t ∷ ts) = by (is_mark mark.Semicolon t.lexeme) refl
   where

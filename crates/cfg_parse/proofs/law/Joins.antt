@@ -7,7 +7,7 @@ use Rattle.cfg_tree.specs.declared.token.Lexeme.{Lexeme}
 use Rattle.cfg_tree.specs.declared.raw.RawExpr.{RawExpr}
 use Rattle.std.proofs.lemmas.Bool.{both_ways}
 use Rattle.cfg_tree.specs.Grammar.{Level, JoinIs, ExprIs, JoinedAre, last_joined, more_joined}
-use Rattle.cfg_parse.specs.Reader.{Reader, ◌>>=◌, ◌>>◌, ◌<$>◌, pure, pass, first, many}
+use Rattle.cfg_parse.specs.Reader.{Reader, ◌>>=◌, ◌>>◌, ◌<$>◌, pure, pass, passed, first, many}
 use Rattle.cfg_parse.specs.Exprs.{joined}
 use Rattle.cfg_parse.proofs.law.Steps.{OnRead, nothing, found, and_so, read_then, Front, Takes, both}
 use Rattle.cfg_parse.proofs.law.Several.{Several, none, more, OnStep, many_takes, follows, many_again}
@@ -37,7 +37,7 @@ module _ (l up : Level) (room : ℕ) (test : Option Lexeme → Bool) (p : Reader
     (with_more : (ts us : List Token) (e x : RawExpr) (xs : List RawExpr) → ExprIs l room ts e → JoinedAre l room us (x ∷ xs) → ExprIs up room (ts ++ us) (make e (x ∷ xs)))
     (operand : Takes (ExprIs l room) p) where
   join_takes : (ts : List Token) → OnRead (OnStep (JoinItem l room) ts) (joined test p ts)
-  unfolding first
+  unfolding first passed
   join_takes [] = subst (λ b. OnRead (OnStep (JoinItem l room) []) ((if b then pass >> Some <$> p else pure None) [])) (sym none_is) (found None [] refl)
   join_takes (t ∷ ts) = by (test (Some t.lexeme)) refl
     where
@@ -57,7 +57,7 @@ module _ (l : Level) (room : ℕ) (test : Option Lexeme → Bool) (p : Reader Ra
     (join_ends : (t : Token) → JoinIs l t → Ends (Some t.lexeme))
     (operand : (us : List Token) (e : RawExpr) (rest : List Token) → ExprIs l room us e → Ends (first rest) → p (us ++ rest) ≡ Some (e, rest)) where
   join_again : (us : List Token) (x : RawExpr) (rest : List Token) → JoinItem l room us x → Ends (first rest) → joined test p (us ++ rest) ≡ Some (Some x, rest)
-  unfolding first
+  unfolding first passed
   join_again _ _ rest (join_item t ts e h k) f = subst (λ b. (if b then pass >> Some <$> p else pure None) (t ∷ ts ++ rest) ≡ Some (Some e, rest)) (sym (join_read t h)) (read_then _ (operand ts e rest k f) refl)
 
   join_starts : (us : List Token) (x : RawExpr) (rest : List Token) → JoinItem l room us x → Ends (first (us ++ rest))

@@ -9,7 +9,7 @@ use Rattle.cfg_tree.specs.declared.raw.RawExpr.{RawExpr}
 use Rattle.cfg_tree.specs.declared.raw.RawExpr.TheOpen.{RawExpr-F}
 use Rattle.cfg_tree.specs.declared.raw.RawExpr.TheViews.{roll-RawExpr}
 use Rattle.cfg_tree.specs.Grammar.{Level, LinkIs, ExprIs, LinkedAre, last_linked, more_linked}
-use Rattle.cfg_parse.specs.Reader.{Reader, ◌>>=◌, pure, first, many}
+use Rattle.cfg_parse.specs.Reader.{Reader, ◌>>=◌, pure, passed, first, many}
 use Rattle.cfg_parse.specs.Exprs.{linked_by, linked, chain}
 use Rattle.cfg_parse.proofs.law.Steps.{OnRead, nothing, found, and_so, read_then, Front, Takes, both}
 use Rattle.cfg_parse.proofs.law.Several.{Several, none, more, OnStep, many_takes, follows, many_again}
@@ -43,7 +43,7 @@ module _ (l up : Level) (room : ℕ) (operator : Option Lexeme → Option BinOp)
     (with_links : (ts us : List Token) (e : RawExpr) (links : List (BinOp × RawExpr)) → ExprIs l room ts e → LinkedAre l room us links → ExprIs up room (ts ++ us) (roll-RawExpr (RawExpr-F.Chain e links)))
     (operand : Takes (ExprIs l room) p) where
   link_takes : (ts : List Token) → OnRead (OnStep (LinkItem l room) ts) (linked operator p ts)
-  unfolding first
+  unfolding first passed
   link_takes [] = subst (λ o. OnRead (OnStep (LinkItem l room) []) (linked_by p o [])) (sym none_is) (found None [] refl)
   link_takes (t ∷ ts) = by (operator (Some t.lexeme)) (link_is t.lexeme t.at)
     where
@@ -63,7 +63,7 @@ module _ (l : Level) (room : ℕ) (operator : Option Lexeme → Option BinOp) (p
     (link_ends : (t : Token) (op : BinOp) → LinkIs l op t → Ends (Some t.lexeme))
     (operand : (us : List Token) (e : RawExpr) (rest : List Token) → ExprIs l room us e → Ends (first rest) → p (us ++ rest) ≡ Some (e, rest)) where
   link_again : (us : List Token) (x : BinOp × RawExpr) (rest : List Token) → LinkItem l room us x → Ends (first rest) → linked operator p (us ++ rest) ≡ Some (Some x, rest)
-  unfolding first
+  unfolding first passed
   link_again _ _ rest (link_item t ts op e h k) f = subst (λ o. linked_by p o (t ∷ ts ++ rest) ≡ Some (Some (op, e), rest)) (sym (link_read t op h)) (read_then _ (operand ts e rest k f) refl)
 
   link_starts : (us : List Token) (x : BinOp × RawExpr) (rest : List Token) → LinkItem l room us x → Ends (first (us ++ rest))

@@ -1,5 +1,5 @@
 -- Readers, step by step: what a step reads, and what is read where a step reads.
-use Rattle.std.specs.Prelude.{Bool, true, false, List, [], ◌∷◌, ◌++◌, drop, Option, Some, None, if◌then◌else◌}
+use Rattle.std.specs.Prelude.{Bool, true, false, List, [], ◌∷◌, ◌++◌, Option, Some, None, if◌then◌else◌}
 use Rattle.std.proofs.Common.{◌≡◌, refl, sym, ap, subst, ◌∙◌, append_assoc}
 use Rattle.std.proofs.lemmas.Bool.{both_ways}
 use denote.Enum.Bare.{same_true, true_same}
@@ -11,7 +11,7 @@ use Rattle.cfg_tree.specs.declared.token.Mark.{Mark}
 use Rattle.cfg_tree.specs.contracts.token.Keyword as keyword
 use Rattle.cfg_tree.specs.contracts.token.Mark as mark
 use Rattle.cfg_tree.specs.Tokens.{IsA, IsMark, IsKeyword}
-use Rattle.cfg_parse.specs.Reader.{Reader, and_then, first, is_mark, is_keyword, sees_mark, sees_keyword, after, mark_of, keyword_of}
+use Rattle.cfg_parse.specs.Reader.{Reader, and_then, first, is_mark, is_keyword, sees_mark, sees_keyword, passed, after, mark_of, keyword_of}
 
 -- what holds of what is read, and of the tokens that are left, if anything is read
 pub data OnRead {A : Type 0} (Q : A → List Token → Type 0) : Option (A × List Token) → Type 0 where
@@ -66,7 +66,7 @@ keyword_is k (lexeme.Keyword l) h = ap (λ (k : Keyword). lexeme.Keyword k) (sym
 keyword_is k _ h = absurd (both_ways false refl h)
 
 pub mark_takes : (m : Mark) (ts : List Token) → OnRead (OneToken (λ t _. IsMark m t) ts) (mark_of m ts)
-unfolding mark_of sees_mark first
+unfolding mark_of sees_mark first passed
 mark_takes m [] = nothing
 mark_takes m (t ∷ ts) = by (is_mark m t.lexeme) refl
   where
@@ -75,7 +75,7 @@ mark_takes m (t ∷ ts) = by (is_mark m t.lexeme) refl
     by false h = nothing
 
 pub keyword_takes : (k : Keyword) (ts : List Token) → OnRead (OneToken (λ t _. IsKeyword k t) ts) (keyword_of k ts)
-unfolding keyword_of sees_keyword first
+unfolding keyword_of sees_keyword first passed
 keyword_takes k [] = nothing
 keyword_takes k (t ∷ ts) = by (is_keyword k t.lexeme) refl
   where
@@ -85,7 +85,7 @@ keyword_takes k (t ∷ ts) = by (is_keyword k t.lexeme) refl
 
 -- a mark that is passed where it comes next
 pub eaten : {A : Type 0} {Q : A → List Token → Type 0} (m : Mark) (ts : List Token) (p q : Reader A) → ((t : Token) (mid : List Token) → ts ≡ t ∷ mid → IsMark m t → OnRead Q (p mid)) → OnRead Q (q ts) → OnRead Q ((if sees_mark m ts then p else q) (after (sees_mark m ts) ts))
-unfolding sees_mark first
+unfolding sees_mark first passed
 eaten m [] p q f g = g
 eaten {A} {Q} m (t ∷ ts) p q f g = by (is_mark m t.lexeme) refl
   where
@@ -94,7 +94,7 @@ eaten {A} {Q} m (t ∷ ts) p q f g = by (is_mark m t.lexeme) refl
     by false h = g
 
 pub eaten_word : {A : Type 0} {Q : A → List Token → Type 0} (k : Keyword) (ts : List Token) (p q : Reader A) → ((t : Token) (mid : List Token) → ts ≡ t ∷ mid → IsKeyword k t → OnRead Q (p mid)) → (sees_keyword k ts ≡ false → OnRead Q (q ts)) → OnRead Q ((if sees_keyword k ts then p else q) (after (sees_keyword k ts) ts))
-unfolding sees_keyword first
+unfolding sees_keyword first passed
 eaten_word k [] p q f g = g refl
 eaten_word {A} {Q} k (t ∷ ts) p q f g = by (is_keyword k t.lexeme) refl
   where
@@ -121,15 +121,16 @@ unfolding sees_keyword first
 unseen_word k t ts h e = ap (is_keyword k) h ∙ e
 
 pub mark_again : (m : Mark) (t : Token) (ts : List Token) → IsMark m t → mark_of m (t ∷ ts) ≡ Some (tt, ts)
-unfolding mark_of
+unfolding mark_of passed
 mark_again m t ts h = rw (sees m t ts h) refl
 
 pub keyword_again : (k : Keyword) (t : Token) (ts : List Token) → IsKeyword k t → keyword_of k (t ∷ ts) ≡ Some (tt, ts)
-unfolding keyword_of
+unfolding keyword_of passed
 keyword_again k t ts h = rw (sees_word k t ts h) refl
 
-pub eats : {A : Type 0} {r : Option (A × List Token)} (p q : Reader A) {b : Bool} (ts : List Token) → b ≡ true → p (drop 1 ts) ≡ r → (if b then p else q) (after b ts) ≡ r
-eats {A} {r} p q ts e h = subst (λ (b : Bool). (if b then p else q) (after b ts) ≡ r) (sym e) h
+pub eats : {A : Type 0} {r : Option (A × List Token)} (p q : Reader A) {b : Bool} (t : Token) (ts : List Token) → b ≡ true → p ts ≡ r → (if b then p else q) (after b (t ∷ ts)) ≡ r
+unfolding passed
+eats {A} {r} p q t ts e h = subst (λ (b : Bool). (if b then p else q) (after b (t ∷ ts)) ≡ r) (sym e) h
 
 pub leaves : {A : Type 0} {r : Option (A × List Token)} (p q : Reader A) {b : Bool} (ts : List Token) → b ≡ false → q ts ≡ r → (if b then p else q) (after b ts) ≡ r
 leaves {A} {r} p q ts e h = subst (λ (b : Bool). (if b then p else q) (after b ts) ≡ r) (sym e) h
