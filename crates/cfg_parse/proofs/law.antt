@@ -14,4 +14,6 @@ pub mod Simple
 pub mod StmtTakes
 pub mod Kinds
 pub mod ItemTakes
+pub mod Begins
+pub mod ExprAgain
 pub mod Law

@@ -7,6 +7,7 @@ use Rattle.cfg_tree.specs.declared.raw.RawItem.{RawItem}
 use Rattle.cfg_tree.specs.Grammar.{Derives}
 use Rattle.cfg_parse.specs.Script.{items, all_read, script_at}
 use Rattle.cfg_parse.proofs.law.Steps.{OnRead, nothing, found, Front}
+use Rattle.cfg_parse.proofs.law.ExprAgain.{expr_again}
 use Rattle.cfg_parse.proofs.law.ItemTakes.{items_take}
 
 whole_read : (tokens : List Token) (xs : List RawItem) (o : Option (List RawItem × List Token)) → OnRead (Front Derives tokens) o → all_read o ≡ Some xs → Derives tokens xs
@@ -17,3 +18,6 @@ whole_read tokens xs _ (found ys (t ∷ ts) f) h = absurd (cc)
 pub derives : (tokens : List Token) (items : List RawItem) → script_at tokens ≡ Some items → Derives tokens items
 unfolding script_at
 derives tokens xs h = whole_read tokens xs (items tokens) (items_take tokens) h
+
+pub reads : (tokens : List Token) (items : List RawItem) → Derives tokens items → script_at tokens ≡ Some items
+reads tokens xs d = ?
