@@ -16,4 +16,8 @@ pub mod Kinds
 pub mod ItemTakes
 pub mod Begins
 pub mod ExprAgain
+pub mod StmtBegins
+pub mod SimpleAgain
+pub mod StmtAgain
+pub mod ItemAgain
 pub mod Law

@@ -1,14 +1,14 @@
 -- What is read of a script is what the grammar derives.
 use Rattle.std.specs.Prelude.{List, [], ◌∷◌, ◌++◌, Option, Some, None}
-use Rattle.std.proofs.Common.{◌≡◌, refl, sym, subst, ◌∙◌, append-nil}
+use Rattle.std.proofs.Common.{◌≡◌, refl, sym, ap, subst, ◌∙◌, append-nil}
 use Rattle.std.proofs.lemmas.Option.{same_Some}
 use Rattle.cfg_tree.specs.declared.token.Token.{Token}
 use Rattle.cfg_tree.specs.declared.raw.RawItem.{RawItem}
 use Rattle.cfg_tree.specs.Grammar.{Derives}
 use Rattle.cfg_parse.specs.Script.{items, all_read, script_at}
 use Rattle.cfg_parse.proofs.law.Steps.{OnRead, nothing, found, Front}
-use Rattle.cfg_parse.proofs.law.ExprAgain.{expr_again}
 use Rattle.cfg_parse.proofs.law.ItemTakes.{items_take}
+use Rattle.cfg_parse.proofs.law.ItemAgain.{items_again}
 
 whole_read : (tokens : List Token) (xs : List RawItem) (o : Option (List RawItem × List Token)) → OnRead (Front Derives tokens) o → all_read o ≡ Some xs → Derives tokens xs
 whole_read tokens xs _ nothing h = absurd (cc)
@@ -20,4 +20,5 @@ unfolding script_at
 derives tokens xs h = whole_read tokens xs (items tokens) (items_take tokens) h
 
 pub reads : (tokens : List Token) (items : List RawItem) → Derives tokens items → script_at tokens ≡ Some items
-reads tokens xs d = ?
+unfolding script_at
+reads tokens xs d = ap all_read (items_again tokens xs d)
