@@ -2,6 +2,9 @@
 #![tactic(auto)]
 
 mod calls;
+mod exprs;
 mod fault;
 pub mod laws;
+mod script;
+mod stmts;
 mod tokens;
