@@ -4,3 +4,4 @@ pub mod Exprs
 pub mod Stmts
 pub mod Nests
 pub mod Script
+pub mod Answer

@@ -125,7 +125,7 @@ fn any(alloc: Global, first: RawExpr, more: Items<RawExpr>) -> Result<RawExpr, A
 
 /// `NUMBER | STRING | VAR | call`
 #[tactic(auto, unfolding(crate::specs::Exprs::atom))]
-fn atom(alloc: Global, tokens: &mut Tokens<'_>) -> Result<RawExpr, Fault>
+pub fn atom(alloc: Global, tokens: &mut Tokens<'_>) -> Result<RawExpr, Fault>
     ensures { Reads (spec.atom tokens.old) result tokens.new }
 {
     match tokens.first() {
@@ -375,7 +375,7 @@ impl<F: Fn(Global, &mut Tokens<'_>, usize) -> Result<RawExpr, Fault>> Levels<F> 
 
     /// `( "!" | "not" | "-" ) un | "(" expr ")"`, or what stands by itself
     #[tactic(auto, unfolding(crate::specs::Exprs::prefixed))]
-    fn prefixed(&self, tokens: &mut Tokens<'_>) -> Result<RawExpr, Fault>
+    pub fn prefixed(&self, tokens: &mut Tokens<'_>) -> Result<RawExpr, Fault>
         requires { ReadsUnary self.now.room (F.pre self.now.unary) (F.post self.now.unary) }
         ensures { Reads (spec.prefixed (spec.unary self.now.room) tokens.old) result tokens.new }
     {

@@ -5,6 +5,10 @@ mod calls;
 mod exprs;
 mod fault;
 pub mod laws;
+
 mod script;
 mod stmts;
 mod tokens;
+mod tree;
+
+pub use tree::parse;

@@ -332,7 +332,7 @@ impl<F: Fn(Global, &mut Tokens<'_>, usize, bool) -> Result<RawStmt, Fault>> Arou
 
     /// Any statement. `break` stands only in a loop or a `switch`.
     #[tactic(auto, unfolding(crate::specs::Stmts::stmt_over))]
-    fn stmt_over(&self, tokens: &mut Tokens<'_>, in_loop: bool) -> Result<RawStmt, Fault>
+    pub fn stmt_over(&self, tokens: &mut Tokens<'_>, in_loop: bool) -> Result<RawStmt, Fault>
         requires { ReadsStmt self.now.room (F.pre self.now.stmt) (F.post self.now.stmt) }
         ensures { Reads (spec.stmt_over (spec.stmt self.now.room) in_loop tokens.old) result tokens.new }
     {
