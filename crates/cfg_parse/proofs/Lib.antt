@@ -1,2 +1,4 @@
 pub mod Places
 pub mod law
+pub mod Turns
+pub mod Rooms

@@ -1,5 +1,5 @@
 -- Scripts, as they are read.
-use Rattle.std.specs.Prelude.{ℕ, pos, List, [], ◌∷◌, Option, Some, None, Bool, true, false, if◌then◌else◌, codes}
+use Rattle.std.specs.Prelude.{◌≡◌, ◌≢◌, ℕ, pos, List, [], ◌∷◌, Option, Some, None, Result, Ok, Err, Bool, true, false, if◌then◌else◌, codes}
 use Rattle.std.specs.Str.{bytes_eq}
 use Rattle.pv_values.specs.declared.refusal.Place.{Place}
 use Rattle.pv_values.specs.declared.block.BlockKind.TheVariants.{Request, Branch, Failure, Reply, Event}
@@ -15,6 +15,9 @@ use Rattle.cfg_tree.specs.declared.raw.Setting.{Setting}
 use Rattle.cfg_tree.specs.declared.raw.Setting.TheVariants as setting
 use Rattle.cfg_tree.specs.declared.raw.RawItem.{RawItem}
 use Rattle.cfg_tree.specs.declared.raw.RawItem.TheVariants as item
+use Rattle.cfg_parse.specs.declared.script.Kinds.{Kinds}
+use Rattle.cfg_parse.specs.declared.fault.Fault.{Fault}
+use Rattle.cfg_parse.specs.declared.fault.Fault.TheVariants.{NoMemory}
 use Rattle.cfg_parse.specs.Reader.{Reader, ◌>>=◌, ◌>>◌, ◌<$>◌, pure, refuse, first, one, here, since, eat_mark, mark_of, keyword_of, many}
 use Rattle.cfg_parse.specs.Calls.{string, name, block_name}
 use Rattle.cfg_parse.specs.Stmts.{body}
@@ -74,11 +77,7 @@ parameter w = do
 
 -- ---- blocks
 
--- the kind of block that a word begins: without a name, and with one
-pub record Kinds : Type 0 where
-  pub alone : Option RouteKind
-  pub named : Option RouteKind
-
+-- the kinds of block that a word begins: without a name, and with one
 abbrev pub route_kinds : Kinds
 route_kinds = record { alone = Some (Begins Request); named = Some Route }
 
@@ -171,3 +170,8 @@ all_read (Some (found, t ∷ ts)) = None
 -- the items of all the tokens
 unfoldable pub script_at : List Token → Option (List RawItem)
 script_at ts = all_read (items ts)
+
+-- what a function answers that reads all the tokens
+abbrev pub ReadsAll : Option (List RawItem) → Result (List RawItem) Fault → Type 0
+ReadsAll found (Ok items) = found ≡ Some items
+ReadsAll found (Err fault) = fault ≢ NoMemory → found ≡ None

@@ -2,6 +2,13 @@
 #![tactic(auto)]
 
 mod calls;
+mod exprs;
 mod fault;
 pub mod laws;
+
+mod script;
+mod stmts;
 mod tokens;
+mod tree;
+
+pub use tree::parse;

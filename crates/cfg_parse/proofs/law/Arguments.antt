@@ -1,19 +1,18 @@
 -- Arguments: what is read is derived, and what is derived is read.
-use Rattle.std.specs.Prelude.{ℕ, ℤ, pos, negsuc, neg_ℤ, Bool, true, false, ◌<◌, List, [], ◌∷◌, ◌++◌, length, Option, Some, None}
-use Rattle.std.proofs.Common.{◌≡◌, refl, sym, ap, subst, ◌∙◌, append_assoc, append-nil, arith, length-append}
+use Rattle.std.specs.Prelude.{ℤ, pos, negsuc, neg_ℤ, false, ◌<◌, List, [], ◌∷◌, ◌++◌, length, Some, None}
+use Rattle.std.proofs.Common.{◌≡◌, refl, sym, ap, subst, ◌∙◌, append_assoc, append-nil, arith}
 use Rattle.pv_values.specs.declared.refusal.Place.{Place}
 use Rattle.cfg_tree.specs.declared.token.Token.{Token}
 use Rattle.cfg_tree.specs.declared.token.Lexeme.{Lexeme}
 use Rattle.cfg_tree.specs.declared.token.Lexeme.TheVariants as lexeme
-use Rattle.cfg_tree.specs.declared.token.Keyword.TheVariants as word_is
 use Rattle.cfg_tree.specs.declared.token.Mark.TheVariants as mark
 use Rattle.cfg_tree.specs.declared.raw.RawArg.{RawArg}
 use Rattle.cfg_tree.specs.declared.raw.RawArg.TheVariants as arg
-use Rattle.cfg_tree.specs.Tokens.{IsA, IsMark}
+use Rattle.cfg_tree.specs.Tokens.{IsMark}
 use Rattle.cfg_tree.specs.Grammar.{ArgIs, string_arg, number_arg, negative_arg, variable_arg, ArgsAre, last_arg, more_args}
-use Rattle.cfg_parse.specs.Reader.{Reader, first, one, pass, passed, behind_mark, sees_mark}
+use Rattle.cfg_parse.specs.Reader.{first, one, passed, behind_mark, sees_mark}
 use Rattle.cfg_parse.specs.Calls.{arg_by, number, string, variable, argument, more_arguments, arguments}
-use Rattle.cfg_parse.proofs.law.Steps.{OnRead, nothing, found, and_so, read_then, Front, Takes, OneToken, mark_takes, eaten, sees, unseen, mark_again, eats, leaves, by_first}
+use Rattle.cfg_parse.proofs.law.Steps.{OnRead, nothing, found, and_so, read_then, Front, Takes, mark_takes, eaten, sees, unseen, mark_again, eats, leaves, by_first}
 use Rattle.cfg_parse.proofs.law.Several.{Several, none, more, OnStep, behind_takes, many_again}
 use Rattle.cfg_parse.proofs.law.OneToken.{NumberIs, number_is, number_takes, number_again, string_again, variable_again, string_is, variable_is}
 

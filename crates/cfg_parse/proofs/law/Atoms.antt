@@ -1,7 +1,6 @@
 -- Numbers, strings, variables and calls as expressions.
-use Rattle.std.specs.Prelude.{ℕ, ℤ, pos, Bool, true, false, List, [], ◌∷◌, ◌++◌, Option, Some, None}
+use Rattle.std.specs.Prelude.{ℕ, ℤ, pos, List, [], ◌∷◌, ◌++◌, Some, None}
 use Rattle.std.proofs.Common.{◌≡◌, refl}
-use Rattle.pv_values.specs.declared.refusal.Place.{Place}
 use Rattle.cfg_tree.specs.declared.token.Token.{Token}
 use Rattle.cfg_tree.specs.declared.token.Variable.{Variable}
 use Rattle.cfg_tree.specs.declared.token.Lexeme.{Lexeme}
@@ -17,7 +16,7 @@ use Rattle.cfg_tree.specs.Grammar as tree
 use Rattle.cfg_tree.specs.Grammar.{CallIs, ExprIs}
 use Rattle.cfg_parse.specs.Reader.{Reader, first}
 use Rattle.cfg_parse.specs.Exprs.{atom_by, atom, prefixed_by, prefixed}
-use Rattle.cfg_parse.proofs.law.Steps.{OnRead, nothing, found, and_so, read_then, Front, Takes, by_first}
+use Rattle.cfg_parse.proofs.law.Steps.{OnRead, found, and_so, read_then, Front, Takes, by_first}
 use Rattle.cfg_parse.proofs.law.OneToken.{NumberIs, number_is, StringIs, string_is, VariableIs, variable_is, number_takes, string_takes, variable_takes, number_again, string_again, variable_again}
 use Rattle.cfg_parse.proofs.law.Calls.{call_takes, call_again}
 

@@ -1,8 +1,7 @@
 -- How an expression begins.
-use Rattle.std.specs.Prelude.{ℕ, Bool, true, false, List, [], ◌∷◌, ◌++◌, Option, Some, None}
-use Rattle.std.proofs.Common.{◌≡◌, refl, ap, inl, inr}
+use Rattle.std.specs.Prelude.{ℕ, false, List, [], ◌∷◌, ◌++◌}
+use Rattle.std.proofs.Common.{◌≡◌, ap, inl, inr}
 use Rattle.cfg_tree.specs.declared.token.Token.{Token}
-use Rattle.cfg_tree.specs.declared.token.Lexeme.{Lexeme}
 use Rattle.cfg_tree.specs.declared.token.Keyword.TheVariants as word_is
 use Rattle.cfg_tree.specs.declared.token.Mark.TheVariants as mark
 use Rattle.cfg_tree.specs.declared.raw.RawCall.{RawCall}

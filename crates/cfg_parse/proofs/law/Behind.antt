@@ -1,11 +1,11 @@
 -- What a keyword begins, where it comes next.
-use Rattle.std.specs.Prelude.{ℕ, ◌<◌, Bool, true, false, List, [], ◌∷◌, ◌++◌, length, Option, Some, None}
+use Rattle.std.specs.Prelude.{◌<◌, false, List, ◌∷◌, length, Some, None}
 use Rattle.std.proofs.Common.{◌≡◌, refl, ap, ◌∙◌, arith}
 use Rattle.cfg_tree.specs.declared.token.Token.{Token}
 use Rattle.cfg_tree.specs.declared.token.Keyword.{Keyword}
 use Rattle.cfg_tree.specs.Tokens.{IsKeyword}
 use Rattle.cfg_parse.specs.Reader.{Reader, sees_keyword, behind_keyword}
-use Rattle.cfg_parse.proofs.law.Steps.{OnRead, nothing, found, and_so, read_then, Front, Takes, eaten_word, sees_word, eats, leaves}
+use Rattle.cfg_parse.proofs.law.Steps.{OnRead, found, and_so, read_then, Takes, eaten_word, sees_word, eats, leaves}
 use Rattle.cfg_parse.proofs.law.Several.{OnStep}
 
 pub data BehindWord {A : Type 0} (k : Keyword) (P : List Token → A → Type 0) : List Token → A → Type 0 where

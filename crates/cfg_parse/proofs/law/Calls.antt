@@ -1,6 +1,6 @@
 -- Calls: what is read is derived, and what is derived is read.
-use Rattle.std.specs.Prelude.{ℕ, Bool, true, false, List, [], ◌∷◌, ◌++◌, Option, Some, None}
-use Rattle.std.proofs.Common.{◌≡◌, refl, sym, ap, subst, ◌∙◌, append_assoc}
+use Rattle.std.specs.Prelude.{List, [], ◌∷◌, ◌++◌, Some}
+use Rattle.std.proofs.Common.{◌≡◌, refl}
 use Rattle.cfg_tree.specs.declared.token.Token.{Token}
 use Rattle.cfg_tree.specs.declared.token.Lexeme.{Lexeme}
 use Rattle.cfg_tree.specs.declared.token.Lexeme.TheVariants as lexeme
@@ -10,12 +10,12 @@ use Rattle.cfg_tree.specs.declared.raw.Word.{Word}
 use Rattle.cfg_tree.specs.declared.raw.RawArg.{RawArg}
 use Rattle.cfg_tree.specs.declared.raw.RawCall.{RawCall}
 use Rattle.cfg_tree.specs.declared.raw.RawCall.TheVariants as call
-use Rattle.cfg_tree.specs.Tokens.{IsA, IsMark, IsKeyword}
+use Rattle.cfg_tree.specs.Tokens.{IsMark, IsKeyword}
 use Rattle.cfg_tree.specs.Grammar as tree
 use Rattle.cfg_tree.specs.Grammar.{CallIs, plain_call, call_with}
-use Rattle.cfg_parse.specs.Reader.{Reader, first, mark_of, keyword_of}
-use Rattle.cfg_parse.specs.Calls.{name, target, arguments, function_call, route_call, call_by, call_of}
-use Rattle.cfg_parse.proofs.law.Steps.{OnRead, nothing, found, and_so, read_then, Front, Takes, OneToken, mark_takes, keyword_takes, mark_again, keyword_again, by_first}
+use Rattle.cfg_parse.specs.Reader.{first}
+use Rattle.cfg_parse.specs.Calls.{function_call, route_call, call_by, call_of}
+use Rattle.cfg_parse.proofs.law.Steps.{OnRead, found, and_so, read_then, Front, Takes, mark_takes, keyword_takes, mark_again, keyword_again, by_first}
 use Rattle.cfg_parse.proofs.law.OneToken.{NameIs, name_is, TargetIs, target_is, name_takes, target_takes, name_again, target_again}
 use Rattle.cfg_parse.proofs.law.Arguments.{InBrackets, no_args, with_args, args_takes, args_again}
 

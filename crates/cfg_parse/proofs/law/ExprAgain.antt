@@ -1,5 +1,5 @@
 -- Expressions: what is derived is read.
-use Rattle.std.specs.Prelude.{ℕ, zero, suc, pos, Bool, true, false, List, [], ◌∷◌, ◌++◌, Option, Some, None}
+use Rattle.std.specs.Prelude.{ℕ, zero, suc, Bool, true, false, List, [], ◌∷◌, ◌++◌, Some}
 use Rattle.std.proofs.Common.{◌≡◌, refl, sym, ap, subst, ◌∙◌, append_assoc, inl, inr}
 use Rattle.std.proofs.lemmas.Bool.{both_ways}
 use Rattle.cfg_tree.specs.declared.token.Token.{Token}
@@ -13,14 +13,14 @@ use Rattle.cfg_tree.specs.declared.raw.RawExpr.TheViews.{roll-RawExpr}
 use Rattle.cfg_tree.specs.Tokens.{IsMark, IsKeyword}
 use Rattle.cfg_tree.specs.Grammar as tree
 use Rattle.cfg_tree.specs.Grammar.{ExprIs, IsExpr, JoinedAre}
-use Rattle.cfg_parse.specs.Reader.{Reader, ◌>>=◌, first, one, passed, is_keyword, is_mark, sees_mark}
-use Rattle.cfg_parse.specs.Exprs.{factor_operator, term_operator, comparison_operator, is_and, is_or, all, any, is_equal_in, myself, more_factors, product, more_terms, sum, compared_by, compared, comparison_by, comparison, more_of_all, all_of, more_of_any, any_of, bracketed, prefixed_by, prefixed, unary, expr_in, expr}
+use Rattle.cfg_parse.specs.Reader.{Reader, ◌>>=◌, first, one, passed, is_keyword, sees_mark}
+use Rattle.cfg_parse.specs.Exprs.{factor_operator, term_operator, is_and, is_or, all, any, is_equal_in, myself, more_factors, product, more_terms, sum, compared_by, compared, comparison_by, comparison, more_of_all, all_of, more_of_any, any_of, bracketed, prefixed_by, prefixed, unary, expr_in, expr}
 use Rattle.cfg_parse.proofs.law.Steps.{read_then, mark_again, keyword_again, sees, eats, leaves, by_first}
 use Rattle.cfg_parse.proofs.law.OneToken.{one_again, string_is, string_again}
 use Rattle.cfg_parse.proofs.law.Links as links
 use Rattle.cfg_parse.proofs.law.Joins as joins
 use Rattle.cfg_parse.proofs.law.Operators.{UnaryEnds, ProductEnds, SumEnds, ComparisonEnds, AllEnds, AnyEnds, at_first, factor_read, term_read, term_ends, comparison_read, and_read, and_ends, or_read, or_ends}
-use Rattle.cfg_parse.proofs.law.Atoms.{AtomIs, number_atom, string_atom, variable_atom, call_atom, atom_again, prefixed_atom}
+use Rattle.cfg_parse.proofs.law.Atoms.{number_atom, string_atom, variable_atom, call_atom, atom_again, prefixed_atom}
 use Rattle.cfg_parse.proofs.law.Begins.{OperandBegins, operand_begins, sum_begins}
 
 -- a bracket or a semicolon ends an expression

@@ -1,6 +1,6 @@
 -- Expressions: what is read is derived.
 use Rattle.std.specs.Prelude.{ℕ, zero, suc, Bool, true, false, List, [], ◌∷◌, ◌++◌, Option, Some, None, IfSome}
-use Rattle.std.proofs.Common.{◌≡◌, refl, sym, ap, subst, ◌∙◌, append_assoc, inl, inr}
+use Rattle.std.proofs.Common.{refl, sym, ap, ◌∙◌, append_assoc, inl, inr}
 use Rattle.pv_values.specs.declared.operator.BinOp.{BinOp}
 use Rattle.pv_values.specs.declared.refusal.Place.{Place}
 use Rattle.cfg_tree.specs.declared.token.Token.{Token}
@@ -14,10 +14,10 @@ use Rattle.cfg_tree.specs.declared.raw.RawExpr.TheOpen.{RawExpr-F}
 use Rattle.cfg_tree.specs.declared.raw.RawExpr.TheViews.{roll-RawExpr}
 use Rattle.cfg_tree.specs.Tokens.{IsMark, IsKeyword}
 use Rattle.cfg_tree.specs.Grammar as tree
-use Rattle.cfg_tree.specs.Grammar.{ExprIs, CompareIs, IsExpr, JoinedAre}
+use Rattle.cfg_tree.specs.Grammar.{ExprIs, CompareIs, IsExpr}
 use Rattle.cfg_parse.specs.Reader.{Reader, first, passed}
 use Rattle.cfg_parse.specs.Exprs.{factor_operator, term_operator, comparison_operator, is_and, is_or, all, any, is_equal_in, myself, more_factors, product, more_terms, sum, compared_by, compared, comparison_by, comparison, more_of_all, all_of, more_of_any, any_of, bracketed, prefixed_by, prefixed, unary, expr_in, expr}
-use Rattle.cfg_parse.proofs.law.Steps.{OnRead, nothing, found, and_so, Front, Takes, OneToken, mark_takes, keyword_takes, eaten}
+use Rattle.cfg_parse.proofs.law.Steps.{OnRead, found, and_so, Front, Takes, mark_takes, keyword_takes, eaten}
 use Rattle.cfg_parse.proofs.law.OneToken.{one_takes, StringIs, string_is, string_takes}
 use Rattle.cfg_parse.proofs.law.Links.{chained_takes}
 use Rattle.cfg_parse.proofs.law.Joins.{gathered_takes}

@@ -3,7 +3,6 @@ use Rattle.std.specs.Prelude.{ℕ, ◌<◌, Bool, true, false, List, [], ◌∷�
 use Rattle.std.proofs.Common.{◌≡◌, refl, sym, ap, subst, ◌∙◌, append_assoc, append-nil, arith}
 use Rattle.pv_values.specs.declared.refusal.Place.{Place}
 use Rattle.cfg_tree.specs.declared.token.Token.{Token}
-use Rattle.cfg_tree.specs.declared.token.Lexeme.{Lexeme}
 use Rattle.cfg_tree.specs.declared.token.Lexeme.TheVariants as lexeme
 use Rattle.cfg_tree.specs.declared.token.Keyword.TheVariants as word_is
 use Rattle.cfg_tree.specs.declared.token.Mark.TheVariants as mark
@@ -16,9 +15,10 @@ use Rattle.cfg_tree.specs.declared.raw.RawItem.TheVariants as item
 use Rattle.cfg_tree.specs.Tokens.{IsA, IsMark, IsKeyword, whole}
 use Rattle.cfg_tree.specs.Grammar as tree
 use Rattle.cfg_tree.specs.Grammar.{EndIs, SettingIs, ValueIs, KindIs, NamedKindIs, HeadIs, StmtsAre, ItemIs, Derives}
-use Rattle.cfg_parse.specs.Reader.{Reader, and_then, pure, first, passed, after, is_mark, sees_mark}
+use Rattle.cfg_parse.specs.Reader.{and_then, pure, first, passed, after, is_mark, sees_mark}
 use Rattle.cfg_parse.specs.Stmts.{ends_list}
-use Rattle.cfg_parse.specs.Script.{setting_in, value_in, setting_of, value_of, module_of, module_parameter, parameter, Kinds, route_kinds, kinds_of, alone_by, named_by, head_by, head_of, block, route_in, route_block, named_item, item_by, item_of, next_item, items}
+use Rattle.cfg_parse.specs.declared.script.Kinds.{Kinds}
+use Rattle.cfg_parse.specs.Script.{setting_in, value_in, setting_of, value_of, module_of, module_parameter, parameter, route_kinds, kinds_of, alone_by, named_by, head_by, head_of, block, route_in, route_block, named_item, item_by, item_of, next_item, items}
 use Rattle.cfg_parse.proofs.law.Steps.{read_then, mark_again, keyword_again, sees, unseen, eats, leaves, by_first}
 use Rattle.cfg_parse.proofs.law.Several.{Several, none, more, many_again}
 use Rattle.cfg_parse.proofs.law.OneToken.{one_again, string_is, name_is, block_name_is, string_again, name_again, block_name_again}

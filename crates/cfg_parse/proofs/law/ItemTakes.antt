@@ -1,6 +1,6 @@
 -- The items of a script: what is read is derived.
-use Rattle.std.specs.Prelude.{ℕ, pos, Bool, true, false, List, [], ◌∷◌, ◌++◌, Option, Some, None, IfSome, if◌then◌else◌}
-use Rattle.std.proofs.Common.{◌≡◌, refl, sym, ap, subst, ◌∙◌, append_assoc, append-nil}
+use Rattle.std.specs.Prelude.{pos, Bool, true, false, List, [], ◌∷◌, ◌++◌, Option, Some, None, IfSome}
+use Rattle.std.proofs.Common.{◌≡◌, refl, sym, ap, subst, ◌∙◌, append_assoc}
 use Rattle.pv_values.specs.declared.refusal.Place.{Place}
 use Rattle.cfg_tree.specs.declared.token.Token.{Token}
 use Rattle.cfg_tree.specs.declared.token.Lexeme.{Lexeme}
@@ -13,12 +13,13 @@ use Rattle.cfg_tree.specs.declared.raw.RawStmt.{RawStmt}
 use Rattle.cfg_tree.specs.declared.raw.Setting.{Setting}
 use Rattle.cfg_tree.specs.declared.raw.RawItem.{RawItem}
 use Rattle.cfg_tree.specs.declared.raw.RawItem.TheVariants as item
-use Rattle.cfg_tree.specs.Tokens.{IsA, IsMark, IsKeyword, whole}
+use Rattle.cfg_tree.specs.Tokens.{IsMark, IsKeyword, whole}
 use Rattle.cfg_tree.specs.Grammar as tree
 use Rattle.cfg_tree.specs.Grammar.{EndIs, SettingIs, ValueIs, KindIs, NamedKindIs, HeadIs, StmtsAre, ItemIs, Derives}
-use Rattle.cfg_parse.specs.Reader.{Reader, first, passed, after, is_mark, sees_mark, place_since}
-use Rattle.cfg_parse.specs.Script.{setting_in, value_in, setting_of, value_of, module_of, module_parameter, parameter, Kinds, route_kinds, kinds_of, alone_by, named_by, head_by, head_of, block, route_in, route_block, named_item, item_by, item_of, next_by, next_item, items, all_read, script_at}
-use Rattle.cfg_parse.proofs.law.Steps.{OnRead, nothing, found, and_so, weaker, Front, Takes, OneToken, mark_is, mark_takes, keyword_takes, eaten}
+use Rattle.cfg_parse.specs.Reader.{first, passed, after, is_mark, sees_mark, place_since}
+use Rattle.cfg_parse.specs.declared.script.Kinds.{Kinds}
+use Rattle.cfg_parse.specs.Script.{setting_in, value_in, setting_of, value_of, module_of, module_parameter, parameter, route_kinds, kinds_of, alone_by, named_by, head_by, head_of, block, route_in, route_block, named_item, item_by, item_of, next_item, items}
+use Rattle.cfg_parse.proofs.law.Steps.{OnRead, nothing, found, and_so, weaker, Front, Takes, mark_is, mark_takes, keyword_takes, eaten}
 use Rattle.cfg_parse.proofs.law.Several.{Several, none, more, OnStep, many_takes}
 use Rattle.cfg_parse.proofs.law.OneToken.{one_takes, StringIs, string_is, NameIs, name_is, BlockNameIs, block_name_is, string_takes, name_takes, block_name_takes}
 use Rattle.cfg_parse.proofs.law.Places.{placed}

@@ -1,15 +1,14 @@
 -- Operands, each behind `&&` or `||`: they are read as they are derived.
 use Rattle.std.specs.Prelude.{ℕ, ◌<◌, List, [], ◌∷◌, ◌++◌, length, Option, Some, None, Bool, true, false, if◌then◌else◌}
-use Rattle.std.proofs.Common.{◌≡◌, refl, sym, ap, subst, ◌∙◌, append_assoc, append-nil, arith}
+use Rattle.std.proofs.Common.{◌≡◌, refl, sym, ap, subst, append_assoc, append-nil, arith}
 use Rattle.pv_values.specs.declared.refusal.Place.{Place}
 use Rattle.cfg_tree.specs.declared.token.Token.{Token}
 use Rattle.cfg_tree.specs.declared.token.Lexeme.{Lexeme}
 use Rattle.cfg_tree.specs.declared.raw.RawExpr.{RawExpr}
-use Rattle.std.proofs.lemmas.Bool.{both_ways}
 use Rattle.cfg_tree.specs.Grammar.{Level, JoinIs, ExprIs, JoinedAre, last_joined, more_joined}
 use Rattle.cfg_parse.specs.Reader.{Reader, ◌>>=◌, ◌>>◌, ◌<$>◌, pure, pass, passed, first, many}
 use Rattle.cfg_parse.specs.Exprs.{joined}
-use Rattle.cfg_parse.proofs.law.Steps.{OnRead, nothing, found, and_so, read_then, Front, Takes, both}
+use Rattle.cfg_parse.proofs.law.Steps.{OnRead, found, and_so, read_then, Takes, both}
 use Rattle.cfg_parse.proofs.law.Several.{Several, none, more, OnStep, many_takes, follows, many_again}
 
 pub data JoinItem (l : Level) (room : ℕ) : List Token → RawExpr → Type 0 where

@@ -1,5 +1,5 @@
 -- The words that begin a block, and the kinds that they are.
-use Rattle.std.specs.Prelude.{ℕ, Bool, true, false, List, Option, Some, None, IfSome, if◌then◌else◌, codes}
+use Rattle.std.specs.Prelude.{ℕ, Bool, true, false, List, IfSome, if◌then◌else◌, codes}
 use Rattle.std.proofs.Common.{◌≡◌, refl, ap, ◌∙◌}
 use Rattle.std.specs.Str.{bytes_eq}
 use Rattle.std.proofs.lemmas.Slice.Eq.{bytes_eq-Decides}
@@ -9,7 +9,8 @@ use Rattle.cfg_tree.specs.declared.token.Keyword.TheVariants as word_is
 use Rattle.cfg_tree.specs.Tokens.{IsA, IsKeyword}
 use Rattle.cfg_tree.specs.Grammar as tree
 use Rattle.cfg_tree.specs.Grammar.{KindIs, NamedKindIs}
-use Rattle.cfg_parse.specs.Script.{Kinds, route_kinds, kinds_of}
+use Rattle.cfg_parse.specs.declared.script.Kinds.{Kinds}
+use Rattle.cfg_parse.specs.Script.{route_kinds, kinds_of}
 
 -- these are the kinds of a block that the token begins
 pub record KindsFor (t : Token) (kinds : Kinds) : Type 0 where

@@ -1,6 +1,6 @@
 -- What is read of a script is what the grammar derives.
-use Rattle.std.specs.Prelude.{List, [], ◌∷◌, ◌++◌, Option, Some, None}
-use Rattle.std.proofs.Common.{◌≡◌, refl, sym, ap, subst, ◌∙◌, append-nil}
+use Rattle.std.specs.Prelude.{List, [], ◌∷◌, Option, Some}
+use Rattle.std.proofs.Common.{◌≡◌, sym, ap, subst, ◌∙◌, append-nil}
 use Rattle.std.proofs.lemmas.Option.{same_Some}
 use Rattle.cfg_tree.specs.declared.token.Token.{Token}
 use Rattle.cfg_tree.specs.declared.raw.RawItem.{RawItem}

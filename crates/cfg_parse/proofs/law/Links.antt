@@ -1,6 +1,6 @@
 -- Operands, each behind its operator: a chain is read as it is derived.
 use Rattle.std.specs.Prelude.{ℕ, ◌<◌, List, [], ◌∷◌, ◌++◌, length, Option, Some, None, IfSome}
-use Rattle.std.proofs.Common.{◌≡◌, refl, sym, ap, subst, ◌∙◌, append_assoc, append-nil, arith}
+use Rattle.std.proofs.Common.{◌≡◌, refl, sym, ap, subst, append_assoc, append-nil, arith}
 use Rattle.pv_values.specs.declared.operator.BinOp.{BinOp}
 use Rattle.pv_values.specs.declared.refusal.Place.{Place}
 use Rattle.cfg_tree.specs.declared.token.Token.{Token}
@@ -11,7 +11,7 @@ use Rattle.cfg_tree.specs.declared.raw.RawExpr.TheViews.{roll-RawExpr}
 use Rattle.cfg_tree.specs.Grammar.{Level, LinkIs, ExprIs, LinkedAre, last_linked, more_linked}
 use Rattle.cfg_parse.specs.Reader.{Reader, ◌>>=◌, pure, passed, first, many}
 use Rattle.cfg_parse.specs.Exprs.{linked_by, linked, chain}
-use Rattle.cfg_parse.proofs.law.Steps.{OnRead, nothing, found, and_so, read_then, Front, Takes, both}
+use Rattle.cfg_parse.proofs.law.Steps.{OnRead, found, and_so, read_then, Takes, both}
 use Rattle.cfg_parse.proofs.law.Several.{Several, none, more, OnStep, many_takes, follows, many_again}
 
 pub data LinkItem (l : Level) (room : ℕ) : List Token → BinOp × RawExpr → Type 0 where

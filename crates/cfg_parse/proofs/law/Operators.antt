@@ -1,6 +1,6 @@
 -- Operators, by the tokens that are them, and what ends an operand of each level.
-use Rattle.std.specs.Prelude.{ℕ, Bool, true, false, List, [], ◌∷◌, Option, Some, None, IfSome}
-use Rattle.std.proofs.Common.{◌≡◌, refl, sym, ap, subst}
+use Rattle.std.specs.Prelude.{true, false, List, ◌∷◌, Option, Some, None, IfSome}
+use Rattle.std.proofs.Common.{◌≡◌, refl, sym, subst}
 use Rattle.std.proofs.lemmas.Bool.{both_ways}
 use Rattle.pv_values.specs.declared.operator.BinOp.{BinOp}
 use Rattle.pv_values.specs.declared.refusal.Place.{Place}

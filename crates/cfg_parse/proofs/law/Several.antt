@@ -3,7 +3,7 @@ use Rattle.std.specs.Prelude.{ℕ, zero, suc, ◌+◌, ◌<◌, ◌≤◌, List,
 use Rattle.std.proofs.Common.{◌≡◌, refl, sym, ap, subst, ◌∙◌, append_assoc, append-nil, arith, length-append}
 use Rattle.cfg_tree.specs.declared.token.Token.{Token}
 use Rattle.cfg_parse.specs.Reader.{Reader, go_on, many_from, many}
-use Rattle.cfg_parse.proofs.law.Steps.{OnRead, nothing, found, and_so, weaker, read_then, Front, Takes}
+use Rattle.cfg_parse.proofs.law.Steps.{OnRead, found, and_so, weaker, read_then, Front, Takes}
 
 pub data Several {A : Type 0} (Item : List Token → A → Type 0) : List Token → List A → Type 0 where
   none : Several Item [] []

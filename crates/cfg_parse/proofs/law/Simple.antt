@@ -1,6 +1,6 @@
 -- Statements without others in them: what is read is derived.
 use Rattle.std.specs.Prelude.{ℕ, suc, Bool, true, false, List, [], ◌∷◌, ◌++◌, Option, Some, None}
-use Rattle.std.proofs.Common.{◌≡◌, refl, sym, ap, subst, ◌∙◌, append_assoc}
+use Rattle.std.proofs.Common.{◌≡◌, refl, sym, subst, append_assoc}
 use Rattle.std.proofs.lemmas.Bool.{both_ways}
 use Rattle.pv_values.specs.declared.refusal.Place.{Place}
 use Rattle.cfg_tree.specs.declared.token.Token.{Token}
@@ -13,10 +13,10 @@ use Rattle.cfg_tree.specs.declared.raw.RawStmt.TheOpen.{RawStmt-F}
 use Rattle.cfg_tree.specs.declared.raw.RawStmt.TheViews.{roll-RawStmt}
 use Rattle.cfg_tree.specs.Tokens.{IsMark, IsKeyword, whole}
 use Rattle.cfg_tree.specs.Grammar as tree
-use Rattle.cfg_tree.specs.Grammar.{IsExpr, CallIs, StmtIs}
-use Rattle.cfg_parse.specs.Reader.{Reader, place_since, sees_keyword}
+use Rattle.cfg_tree.specs.Grammar.{IsExpr, StmtIs}
+use Rattle.cfg_parse.specs.Reader.{place_since, sees_keyword}
 use Rattle.cfg_parse.specs.Stmts.{condition, assignment, call_alone, returned, return_of, exit_alone, drop_alone, break_alone, empty}
-use Rattle.cfg_parse.proofs.law.Steps.{OnRead, nothing, found, and_so, Front, Takes, mark_takes, keyword_takes, eaten}
+use Rattle.cfg_parse.proofs.law.Steps.{OnRead, found, and_so, Takes, mark_takes, keyword_takes, eaten}
 use Rattle.cfg_parse.proofs.law.OneToken.{VariableIs, variable_is, variable_takes}
 use Rattle.cfg_parse.proofs.law.Calls.{call_takes}
 use Rattle.cfg_parse.proofs.law.ExprTakes.{expr_takes}

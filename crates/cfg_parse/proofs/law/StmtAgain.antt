@@ -1,25 +1,24 @@
 -- Statements: what is derived is read.
-use Rattle.std.specs.Prelude.{ℕ, zero, suc, ◌<◌, Bool, true, false, List, [], ◌∷◌, ◌++◌, length, Option, Some, None, if◌then◌else◌}
+use Rattle.std.specs.Prelude.{ℕ, zero, suc, ◌<◌, Bool, true, false, List, [], ◌∷◌, ◌++◌, length, Some, None, if◌then◌else◌}
 use Rattle.std.proofs.Common.{◌≡◌, refl, sym, ap, subst, ◌∙◌, append_assoc}
 use Rattle.std.proofs.lemmas.Bool.{both_ways}
 use Rattle.pv_values.specs.declared.value.Val.{Val}
 use Rattle.cfg_tree.specs.declared.token.Token.{Token}
-use Rattle.cfg_tree.specs.declared.token.Lexeme.{Lexeme}
 use Rattle.cfg_tree.specs.declared.token.Keyword.TheVariants as word_is
 use Rattle.cfg_tree.specs.declared.token.Mark.TheVariants as mark
 use Rattle.cfg_tree.specs.declared.raw.RawStmt.{RawStmt}
 use Rattle.cfg_tree.specs.declared.raw.RawStmt.TheOpen.{RawStmt-F}
 use Rattle.cfg_tree.specs.declared.raw.RawStmt.TheViews.{roll-RawStmt}
-use Rattle.cfg_tree.specs.Tokens.{IsA, IsMark, IsKeyword, whole}
+use Rattle.cfg_tree.specs.Tokens.{IsMark}
 use Rattle.cfg_tree.specs.Grammar as tree
 use Rattle.cfg_tree.specs.Grammar.{StmtIs, StmtsAre, CasesAre, DefaultIs}
 use Rattle.cfg_parse.specs.Reader.{Reader, ◌<$>◌, pure, first, behind_keyword, sees_keyword}
-use Rattle.cfg_parse.specs.Stmts.{ends_list, next_stmt, stmts, if_of, while_of, group, case_of, cases, default_by, default, switch_of, stmt_by, stmt_over, stmt, body}
+use Rattle.cfg_parse.specs.Stmts.{ends_list, next_stmt, stmts, if_of, while_of, group, case_of, cases, default, switch_of, stmt_by, stmt_over, stmt, body}
 use Rattle.cfg_parse.proofs.law.Steps.{read_then, mark_again, keyword_again, unseen_word, by_first}
 use Rattle.cfg_parse.proofs.law.Several.{Several, none, more, many_again}
 use Rattle.cfg_parse.proofs.law.Operators.{at_first}
 use Rattle.cfg_parse.proofs.law.Behind.{BehindWord, behind_word, behind_some, behind_again, behind_none}
-use Rattle.cfg_parse.proofs.law.StmtTakes.{LabelColon, label_colon, SomeStmt, some_stmt, CaseBody, case_body}
+use Rattle.cfg_parse.proofs.law.StmtTakes.{label_colon, SomeStmt, some_stmt, CaseBody, case_body}
 use Rattle.cfg_parse.proofs.law.StmtBegins.{begins, goes_on, no_else, some_token, no_else_at_end}
 use Rattle.cfg_parse.proofs.law.SimpleAgain.{condition_again, label_again, at_whole, set_again, do_again, return_alone_again, return_again, exit_again, drop_again, empty_again, break_again}
 

@@ -1,12 +1,11 @@
 -- How a statement begins.
-use Rattle.std.specs.Prelude.{ℕ, ◌<◌, Bool, true, false, List, [], ◌∷◌, ◌++◌, length, Option, Some, None}
-use Rattle.std.proofs.Common.{◌≡◌, refl, sym, ap, subst, arith}
+use Rattle.std.specs.Prelude.{ℕ, ◌<◌, Bool, true, false, List, [], ◌∷◌, ◌++◌, length, Some}
+use Rattle.std.proofs.Common.{◌≡◌, refl, sym, subst, arith}
 use Rattle.std.proofs.lemmas.Bool.{both_ways}
 use Rattle.cfg_tree.specs.declared.token.Token.{Token}
 use Rattle.cfg_tree.specs.declared.token.Lexeme.{Lexeme}
 use Rattle.cfg_tree.specs.declared.token.Lexeme.TheVariants as lexeme
 use Rattle.cfg_tree.specs.declared.token.Keyword.TheVariants as word_is
-use Rattle.cfg_tree.specs.declared.token.Mark.TheVariants as mark
 use Rattle.cfg_tree.specs.declared.raw.RawStmt.{RawStmt}
 use Rattle.cfg_tree.specs.declared.raw.RawCall.{RawCall}
 use Rattle.cfg_tree.specs.Tokens.{IsA}

@@ -1,4 +1,4 @@
-use Rattle.std.proofs.Common.{◌≡◌, sym, ◌∙◌, Some}
+use Rattle.std.proofs.Common.{sym, ◌∙◌}
 use Rattle.std.proofs.lemmas.Option.{same_Some}
 use Rattle.cfg_parse.proofs.laws.one_tree_at_most.Goals as goal
 use Rattle.cfg_parse.proofs.law.Law.{reads}
