@@ -89,11 +89,11 @@ unfolding arguments more_arguments
 args_takes ts = eaten mark.CloseRound ts _ _
     (λ t mid e h. found [] mid (record { front = t ∷ []; whole = e; is = no_args t h }))
     (and_so (arg_takes ts) (λ a s f. and_so (behind_takes CommaArg (behind_mark mark.Comma argument) comma_takes (a ∷ []) s) (λ xs u g. and_so (mark_takes mark.CloseRound u) (λ _ rest o.
-        found xs rest (record {
-          front = (f.front ++ g.front) ++ o.token ∷ [];
-          whole = let p = append_assoc (f.front ++ g.front) (o.token ∷ []) rest in let q = append_assoc f.front g.front (o.token ∷ rest) in cc;
-          is = with_args (f.front ++ g.front) xs o.token (subst (λ ys. ArgsAre (f.front ++ g.front) ys) (sym g.is.1) (of_parts f.front g.front a g.is.0 f.is g.is.2)) o.is;
-        })))))
+    found xs rest (record {
+      front = (f.front ++ g.front) ++ o.token ∷ [];
+      whole = let p = append_assoc (f.front ++ g.front) (o.token ∷ []) rest in let q = append_assoc f.front g.front (o.token ∷ rest) in cc;
+      is = with_args (f.front ++ g.front) xs o.token (subst (λ ys. ArgsAre (f.front ++ g.front) ys) (sym g.is.1) (of_parts f.front g.front a g.is.0 f.is g.is.2)) o.is;
+    })))))
 
 pub args_again : (us : List Token) (xs : List RawArg) (rest : List Token) → InBrackets us xs → arguments (us ++ rest) ≡ Some (xs, rest)
 unfolding arguments more_arguments
@@ -104,6 +104,6 @@ args_again _ _ rest (with_args ts xs right d h) = by ts xs (parts_of ts xs d)
     by _ _ (parts vs us a ys i s) =
         let all : ((vs ++ us) ++ right ∷ []) ++ rest ≡ vs ++ (us ++ right ∷ rest) = append_assoc (vs ++ us) (right ∷ []) rest ∙ append_assoc vs us (right ∷ rest) in
         rw all (leaves _ _ (vs ++ (us ++ right ∷ rest)) (arg_begins vs a (us ++ right ∷ rest) i)
-          (read_then _ (arg_again vs a (us ++ right ∷ rest) i)
-          (read_then _ (many_again CommaArg (behind_mark mark.Comma argument) (λ _. Unit {0}) comma_again (λ _ _ _ _. tt) comma_some us ys (right ∷ rest) s tt (leaves _ _ (right ∷ rest) (unseen mark.Comma right rest h refl) refl) (a ∷ []))
-          (read_then _ (mark_again mark.CloseRound right rest h) refl))))
+        (read_then _ (arg_again vs a (us ++ right ∷ rest) i)
+        (read_then _ (many_again CommaArg (behind_mark mark.Comma argument) (λ _. Unit {0}) comma_again (λ _ _ _ _. tt) comma_some us ys (right ∷ rest) s tt (leaves _ _ (right ∷ rest) (unseen mark.Comma right rest h refl) refl) (a ∷ []))
+        (read_then _ (mark_again mark.CloseRound right rest h) refl))))

@@ -65,16 +65,16 @@ module _ (room : ℕ) (u : Reader RawExpr) (operand : (us : List Token) (e : Raw
   unfolding compared first passed sees_mark
   comparison_again _ _ rest (tree.one_sum _ ts e d) f =
       from_sum u ts rest (sum_begins room ts e d) ∙ read_then _ (sum_again ts e rest d f.0)
-        (leaves _ _ rest f.1.1 (subst (λ o. compared_by u e o rest ≡ Some (e, rest)) (sym f.1.0) refl))
+      (leaves _ _ rest f.1.1 (subst (λ o. compared_by u e o rest ≡ Some (e, rest)) (sym f.1.0) refl))
   comparison_again _ _ rest (tree.compared _ ts us t op a b d h k) f =
       let c = comparison_read t op h in
       let begins = from_sum u ts (t ∷ us ++ rest) (sum_begins room ts a d) in
       rw (append_assoc ts (t ∷ us) rest) (begins ∙ read_then _ (sum_again ts a (t ∷ us ++ rest) d c.1)
-        (leaves _ _ (t ∷ us ++ rest) c.2 (subst (λ o. compared_by u a o (t ∷ us ++ rest) ≡ Some (roll-RawExpr (RawExpr-F.Chain a ((op, b) ∷ [])), rest)) (sym c.0) (read_then _ (sum_again us b rest k f.0) refl))))
+      (leaves _ _ (t ∷ us ++ rest) c.2 (subst (λ o. compared_by u a o (t ∷ us ++ rest) ≡ Some (roll-RawExpr (RawExpr-F.Chain a ((op, b) ∷ [])), rest)) (sym c.0) (read_then _ (sum_again us b rest k f.0) refl))))
   comparison_again _ _ rest (tree.matches _ ts m t a s d h k) f =
       let begins = from_sum u ts (m ∷ t ∷ rest) (sum_begins room ts a d) in
       rw (append_assoc ts (m ∷ t ∷ []) rest) (begins ∙ read_then _ (sum_again ts a (m ∷ t ∷ rest) d (at_first SumEnds m (t ∷ rest) h (refl, refl)))
-        (eats _ _ m (t ∷ rest) (sees mark.Matches m (t ∷ rest) h) (read_then _ (string_again t rest _ (string_is t s k)) refl)))
+      (eats _ _ m (t ∷ rest) (sees mark.Matches m (t ∷ rest) h) (read_then _ (string_again t rest _ (string_is t s k)) refl)))
   comparison_again _ _ rest (tree.is_myself _ a o m h k e) f = myself_again u a o m rest true h (one_again is_equal_in o (m ∷ rest) k refl) e
   comparison_again _ _ rest (tree.not_myself _ a o m h k e) f = myself_again u a o m rest false h (one_again is_equal_in o (m ∷ rest) k refl) e
 

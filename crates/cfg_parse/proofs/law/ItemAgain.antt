@@ -98,12 +98,12 @@ block_again all _ ts b d _ _ _ ss rest p (tree.unnamed t kind i) h s k =
     let w : all ++ rest ≡ t ∷ b ∷ (ts ++ d ∷ rest) = ap (λ vs. vs ++ rest) p ∙ ap (λ vs. t ∷ b ∷ vs) (append_assoc ts (d ∷ []) rest) in
     let g = kind_begins t kind i in
     ap item_of w ∙ g.1 (b ∷ (ts ++ d ∷ rest)) (unseen mark.Assign b (ts ++ d ∷ rest) h refl)
-      ∙ behind_head (t ∷ b ∷ (ts ++ d ∷ rest)) (b ∷ (ts ++ d ∷ rest)) ts b d g.0 kind None t.at ss all rest w (head_alone g.0 kind b (ts ++ d ∷ rest) g.2 h) h s k
+    ∙ behind_head (t ∷ b ∷ (ts ++ d ∷ rest)) (b ∷ (ts ++ d ∷ rest)) ts b d g.0 kind None t.at ss all rest w (head_alone g.0 kind b (ts ++ d ∷ rest) g.2 h) h s k
 block_again all _ ts b d _ _ _ ss rest p (tree.named t left n right kind name i j l m) h s k =
     let w : all ++ rest ≡ t ∷ left ∷ n ∷ right ∷ b ∷ (ts ++ d ∷ rest) = ap (λ vs. vs ++ rest) p ∙ ap (λ vs. t ∷ left ∷ n ∷ right ∷ b ∷ vs) (append_assoc ts (d ∷ []) rest) in
     let g = named_kind_begins t kind i in
     ap item_of w ∙ g.1 (left ∷ n ∷ right ∷ b ∷ (ts ++ d ∷ rest)) (unseen mark.Assign left (n ∷ right ∷ b ∷ (ts ++ d ∷ rest)) j refl)
-      ∙ behind_head (t ∷ left ∷ n ∷ right ∷ b ∷ (ts ++ d ∷ rest)) (left ∷ n ∷ right ∷ b ∷ (ts ++ d ∷ rest)) ts b d g.0 kind (Some (record { text = name; at = n.at })) t.at ss all rest w (head_named g.0 kind left n right name (b ∷ (ts ++ d ∷ rest)) g.2 j l m) h s k
+    ∙ behind_head (t ∷ left ∷ n ∷ right ∷ b ∷ (ts ++ d ∷ rest)) (left ∷ n ∷ right ∷ b ∷ (ts ++ d ∷ rest)) ts b d g.0 kind (Some (record { text = name; at = n.at })) t.at ss all rest w (head_named g.0 kind left n right name (b ∷ (ts ++ d ∷ rest)) g.2 j l m) h s k
 
 -- ---- items
 

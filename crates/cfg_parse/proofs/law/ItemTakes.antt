@@ -13,7 +13,7 @@ use Rattle.cfg_tree.specs.declared.raw.RawStmt.{RawStmt}
 use Rattle.cfg_tree.specs.declared.raw.Setting.{Setting}
 use Rattle.cfg_tree.specs.declared.raw.RawItem.{RawItem}
 use Rattle.cfg_tree.specs.declared.raw.RawItem.TheVariants as item
-use Rattle.cfg_tree.specs.Tokens.{IsMark, IsKeyword, whole}
+use Rattle.cfg_tree.specs.Tokens.{IsMark, IsKeyword}
 use Rattle.cfg_tree.specs.Grammar as tree
 use Rattle.cfg_tree.specs.Grammar.{EndIs, SettingIs, ValueIs, KindIs, NamedKindIs, HeadIs, StmtsAre, ItemIs, Derives}
 use Rattle.cfg_parse.specs.Reader.{first, passed, after, is_mark, sees_mark, place_since}
@@ -67,12 +67,12 @@ module_parameter_takes : Takes ItemIs module_parameter
 unfolding module_parameter value_of
 module_parameter_takes ts = and_so (keyword_takes word_is.Modparam ts) (λ _ t1 k. and_so (mark_takes mark.OpenRound t1) (λ _ t2 o. and_so (string_takes t2) (λ of t3 m. and_so (mark_takes mark.Comma t3) (λ _ t4 c.
     and_so (string_takes t4) (λ w t5 n. and_so (mark_takes mark.Comma t5) (λ _ t6 d. and_so (one_takes ValueIs value_in value_read t6) (λ x t7 v. and_so (mark_takes mark.CloseRound t7) (λ _ t8 e.
-      let z = end_taken t8 in
-      found _ _ (record {
-        front = k.token ∷ o.token ∷ m.token ∷ c.token ∷ n.token ∷ d.token ∷ v.token ∷ e.token ∷ z.0;
-        whole = cc;
-        is = parameter_of_is k.token o.token m.token c.token n.token d.token v.token e.token z.0 of w x k.is o.is m.is c.is n.is d.is v.is e.is z.2;
-      })))))))))
+    let z = end_taken t8 in
+    found _ _ (record {
+      front = k.token ∷ o.token ∷ m.token ∷ c.token ∷ n.token ∷ d.token ∷ v.token ∷ e.token ∷ z.0;
+      whole = cc;
+      is = parameter_of_is k.token o.token m.token c.token n.token d.token v.token e.token z.0 of w x k.is o.is m.is c.is n.is d.is v.is e.is z.2;
+    })))))))))
 
 parameter_is : (n a v : Token) (us : List Token) (w : Word) (x : Setting) → NameIs n w → IsMark mark.Assign a → SettingIs v x → EndIs us → ItemIs (n ∷ a ∷ v ∷ us) (item.Parameter w x)
 parameter_is _ a v us _ x (name_is n s h) k d e = tree.parameter n a v us s x h k d e
@@ -108,7 +108,7 @@ block_is : (start : List Token) (t b d : Token) (hs ts rest : List Token) (head 
 block_is start t b d hs ts rest head ss e h k s c =
     let us = t ∷ hs ++ b ∷ (ts ++ d ∷ []) in
     subst (λ (at : Place). ItemIs us (item.Block (record { kind = head.0; name = head.1; kind_at = t.at; at = at; body = ss }))) (sym (placed start us rest e))
-      (tree.block us (t ∷ hs) ts b d head.0 head.1 t.at ss (ap (λ us. t ∷ us) (sym (append_assoc hs (b ∷ ts) (d ∷ [])))) h k s c)
+    (tree.block us (t ∷ hs) ts b d head.0 head.1 t.at ss (ap (λ us. t ∷ us) (sym (append_assoc hs (b ∷ ts) (d ∷ [])))) h k s c)
 
 block_takes : (start ts : List Token) (t : Token) (kinds : Kinds) → start ≡ t ∷ ts → KindsFor t kinds → OnRead (Front ItemIs start) (block start t.at kinds ts)
 unfolding block
@@ -134,8 +134,8 @@ named_item_takes : Takes ItemIs named_item
 unfolding named_item parameter setting_of
 named_item_takes ts = and_so (name_takes ts) (λ w u o. eaten mark.Assign u _ _
     (λ a v e h. and_so (one_takes SettingIs setting_in setting_read v) (λ x y s.
-      let z = end_taken y in
-      found _ _ (record { front = o.token ∷ a ∷ s.token ∷ z.0; whole = cc; is = parameter_is o.token a s.token z.0 w x o.is h s.is z.2 })))
+    let z = end_taken y in
+    found _ _ (record { front = o.token ∷ a ∷ s.token ∷ z.0; whole = cc; is = parameter_is o.token a s.token z.0 w x o.is h s.is z.2 })))
     (by o.token w u o.whole o.is))
   where
     by : (t : Token) (w : Word) (u : List Token) → ts ≡ t ∷ u → NameIs t w → OnRead (Front ItemIs ts) (block ts w.at (kinds_of w.text) u)

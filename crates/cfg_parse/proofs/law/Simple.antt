@@ -64,15 +64,15 @@ module _ (room : ℕ) (loop : Bool) where
   unfolding assignment
   assignment_takes ts = and_so (variable_takes ts) (λ v s t. and_so (mark_takes mark.Assign s) (λ _ w a. and_so (expr_takes w) (λ e x f. and_so (mark_takes mark.Semicolon x) (λ _ rest c.
       found _ rest (simple (suc room) loop (λ at. roll-RawStmt (RawStmt-F.Set at v e)) ts (t.token ∷ a.token ∷ f.front ++ c.token ∷ []) rest
-        (let p = append_assoc f.front (c.token ∷ []) rest in cc)
-        (set_is room loop t.token a.token c.token f.front v e t.is a.is f.is c.is))))))
+      (let p = append_assoc f.front (c.token ∷ []) rest in cc)
+      (set_is room loop t.token a.token c.token f.front v e t.is a.is f.is c.is))))))
 
   pub call_alone_takes : (ts : List Token) → OnRead (StmtFound (suc room) loop ts) (call_alone ts)
   unfolding call_alone
   call_alone_takes ts = and_so (call_takes ts) (λ f s d. and_so (mark_takes mark.Semicolon s) (λ _ rest c.
       found _ rest (simple (suc room) loop (λ at. roll-RawStmt (RawStmt-F.Do at f)) ts (d.front ++ c.token ∷ []) rest
-        (let p = append_assoc d.front (c.token ∷ []) rest in cc)
-        (tree.called room loop (d.front ++ c.token ∷ []) d.front c.token f refl d.is c.is))))
+      (let p = append_assoc d.front (c.token ∷ []) rest in cc)
+      (tree.called room loop (d.front ++ c.token ∷ []) d.front c.token f refl d.is c.is))))
 
   pub exit_takes : (ts : List Token) → OnRead (StmtFound (suc room) loop ts) (exit_alone ts)
   unfolding exit_alone
@@ -105,7 +105,7 @@ unfolding returned
 returned_takes ts = eaten mark.Semicolon ts _ _
     (λ c mid e h. found None mid (record { front = c ∷ []; whole = e; is = no_value c h }))
     (and_so (expr_takes ts) (λ e s f. and_so (mark_takes mark.Semicolon s) (λ _ rest c.
-      found (Some e) rest (record { front = f.front ++ c.token ∷ []; whole = let p = append_assoc f.front (c.token ∷ []) rest in cc; is = with_value f.front c.token e f.is c.is }))))
+    found (Some e) rest (record { front = f.front ++ c.token ∷ []; whole = let p = append_assoc f.front (c.token ∷ []) rest in cc; is = with_value f.front c.token e f.is c.is }))))
 
 return_is : (room : ℕ) (loop : Bool) (r : Token) (us : List Token) (value : Option RawExpr) → IsKeyword word_is.Return r → ReturnedIs us value → StmtIs (suc room) loop false (r ∷ us) (roll-RawStmt (RawStmt-F.Return (whole (r ∷ us)) value))
 return_is room loop r _ _ h (no_value c k) = tree.return_alone room loop r c h k

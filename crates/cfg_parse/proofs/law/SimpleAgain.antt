@@ -44,11 +44,11 @@ module _ (inner : Bool → Reader RawStmt) (loop : Bool) where
   set_again us ts t a c v e rest p h k d l =
       let w : us ++ rest ≡ t ∷ a ∷ (ts ++ c ∷ rest) = ap (λ vs. vs ++ rest) p ∙ ap (λ vs. t ∷ a ∷ vs) (append_assoc ts (c ∷ []) rest) in
       ap (stmt_over inner loop) w ∙ by_first (stmt_by inner loop) t (a ∷ (ts ++ c ∷ rest)) h
-        (read_then _ (variable_again t (a ∷ (ts ++ c ∷ rest)) _ (variable_is t v h))
-        (read_then _ (mark_again mark.Assign a (ts ++ c ∷ rest) k)
-        (read_then _ (expr_again ts e (c ∷ rest) d (ends_stmt c rest l))
-        (read_then _ (mark_again mark.Semicolon c rest l)
-        (at_whole (λ at. roll-RawStmt (RawStmt-F.Set at (record { variable = v; at = t.at }) e)) (t ∷ a ∷ (ts ++ c ∷ rest)) us rest w)))))
+      (read_then _ (variable_again t (a ∷ (ts ++ c ∷ rest)) _ (variable_is t v h))
+      (read_then _ (mark_again mark.Assign a (ts ++ c ∷ rest) k)
+      (read_then _ (expr_again ts e (c ∷ rest) d (ends_stmt c rest l))
+      (read_then _ (mark_again mark.Semicolon c rest l)
+      (at_whole (λ at. roll-RawStmt (RawStmt-F.Set at (record { variable = v; at = t.at }) e)) (t ∷ a ∷ (ts ++ c ∷ rest)) us rest w)))))
 
   call_first : (ts : List Token) (f : RawCall) (rest : List Token) → CallIs ts f → stmt_over inner loop (ts ++ rest) ≡ call_alone (ts ++ rest)
   unfolding stmt_over
@@ -61,8 +61,8 @@ module _ (inner : Bool → Reader RawStmt) (loop : Bool) where
   do_again us ts c f rest p d h =
       let w : us ++ rest ≡ ts ++ c ∷ rest = ap (λ vs. vs ++ rest) p ∙ append_assoc ts (c ∷ []) rest in
       ap (stmt_over inner loop) w ∙ call_first ts f (c ∷ rest) d ∙ read_then _ (call_again ts f (c ∷ rest) d)
-        (read_then _ (mark_again mark.Semicolon c rest h)
-        (at_whole (λ at. roll-RawStmt (RawStmt-F.Do at f)) (ts ++ c ∷ rest) us rest w))
+      (read_then _ (mark_again mark.Semicolon c rest h)
+      (at_whole (λ at. roll-RawStmt (RawStmt-F.Do at f)) (ts ++ c ∷ rest) us rest w))
 
   pub return_alone_again : (r c : Token) (rest : List Token) → IsKeyword word_is.Return r → IsMark mark.Semicolon c → stmt_over inner loop (r ∷ c ∷ rest) ≡ Some (roll-RawStmt (RawStmt-F.Return (whole (r ∷ c ∷ [])) None), rest)
   unfolding stmt_over return_of returned
@@ -76,10 +76,10 @@ module _ (inner : Bool → Reader RawStmt) (loop : Bool) where
   return_again us ts r c e rest p h d k =
       let w : us ++ rest ≡ r ∷ (ts ++ c ∷ rest) = ap (λ vs. vs ++ rest) p ∙ ap (λ vs. r ∷ vs) (append_assoc ts (c ∷ []) rest) in
       ap (stmt_over inner loop) w ∙ by_first (stmt_by inner loop) r (ts ++ c ∷ rest) h
-        (read_then _ (keyword_again word_is.Return r (ts ++ c ∷ rest) h)
-        (read_then _ (leaves _ _ (ts ++ c ∷ rest) (no_semicolon 31 ts e (c ∷ rest) d)
-          (read_then _ (expr_again ts e (c ∷ rest) d (ends_stmt c rest k)) (read_then _ (mark_again mark.Semicolon c rest k) refl)))
-        (at_whole (λ at. roll-RawStmt (RawStmt-F.Return at (Some e))) (r ∷ (ts ++ c ∷ rest)) us rest w)))
+      (read_then _ (keyword_again word_is.Return r (ts ++ c ∷ rest) h)
+      (read_then _ (leaves _ _ (ts ++ c ∷ rest) (no_semicolon 31 ts e (c ∷ rest) d)
+      (read_then _ (expr_again ts e (c ∷ rest) d (ends_stmt c rest k)) (read_then _ (mark_again mark.Semicolon c rest k) refl)))
+      (at_whole (λ at. roll-RawStmt (RawStmt-F.Return at (Some e))) (r ∷ (ts ++ c ∷ rest)) us rest w)))
 
   pub exit_again : (t c : Token) (rest : List Token) → IsKeyword word_is.Exit t → IsMark mark.Semicolon c → stmt_over inner loop (t ∷ c ∷ rest) ≡ Some (roll-RawStmt (RawStmt-F.Exit (whole (t ∷ c ∷ []))), rest)
   unfolding stmt_over exit_alone

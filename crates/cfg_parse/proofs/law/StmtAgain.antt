@@ -84,36 +84,36 @@ module _ (room : ℕ) (inner : Bool → Reader RawStmt) (within : (loop dangles 
   stmt_over_again _ _ _ _ rest (tree.if_alone _ loop dangles all ts us i o c e s p h k d l r) f =
       let w : all ++ rest ≡ i ∷ o ∷ (ts ++ c ∷ (us ++ rest)) = ap (λ vs. vs ++ rest) p ∙ ap (λ vs. i ∷ o ∷ vs) (append_assoc ts (c ∷ us) rest) in
       ap (stmt_over inner loop) w ∙ by_first (stmt_by inner loop) i (o ∷ (ts ++ c ∷ (us ++ rest))) h
-        (read_then _ (keyword_again word_is.If i (o ∷ (ts ++ c ∷ (us ++ rest))) h)
-        (read_then _ (condition_again o c ts (us ++ rest) e k d l)
-        (read_then _ (within loop dangles us s rest r (λ _. f refl))
-        (read_then _ (behind_none word_is.Else (inner loop) rest (f refl))
-        (at_whole (λ at. roll-RawStmt (RawStmt-F.If at e s None)) (i ∷ o ∷ (ts ++ c ∷ (us ++ rest))) all rest w)))))
+      (read_then _ (keyword_again word_is.If i (o ∷ (ts ++ c ∷ (us ++ rest))) h)
+      (read_then _ (condition_again o c ts (us ++ rest) e k d l)
+      (read_then _ (within loop dangles us s rest r (λ _. f refl))
+      (read_then _ (behind_none word_is.Else (inner loop) rest (f refl))
+      (at_whole (λ at. roll-RawStmt (RawStmt-F.If at e s None)) (i ∷ o ∷ (ts ++ c ∷ (us ++ rest))) all rest w)))))
   stmt_over_again _ _ _ _ rest (tree.if_else _ loop dangles all ts us vs i o c l e s other p h k d m r n q) f =
       let w : all ++ rest ≡ i ∷ o ∷ (ts ++ c ∷ (us ++ l ∷ (vs ++ rest))) = ap (λ vs. vs ++ rest) p ∙ ap (λ vs. i ∷ o ∷ vs) (append_assoc (ts ++ c ∷ us) (l ∷ vs) rest ∙ append_assoc ts (c ∷ us) (l ∷ vs ++ rest)) in
       ap (stmt_over inner loop) w ∙ by_first (stmt_by inner loop) i (o ∷ (ts ++ c ∷ (us ++ l ∷ (vs ++ rest)))) h
-        (read_then _ (keyword_again word_is.If i (o ∷ (ts ++ c ∷ (us ++ l ∷ (vs ++ rest)))) h)
-        (read_then _ (condition_again o c ts (us ++ l ∷ (vs ++ rest)) e k d m)
-        (read_then _ (within loop false us s (l ∷ (vs ++ rest)) r (λ b. absurd (both_ways false refl b)))
-        (read_then _ (behind_again word_is.Else (inner loop) l (vs ++ rest) n (within loop dangles vs other rest q f))
-        (at_whole (λ at. roll-RawStmt (RawStmt-F.If at e s (Some other))) (i ∷ o ∷ (ts ++ c ∷ (us ++ l ∷ (vs ++ rest)))) all rest w)))))
+      (read_then _ (keyword_again word_is.If i (o ∷ (ts ++ c ∷ (us ++ l ∷ (vs ++ rest)))) h)
+      (read_then _ (condition_again o c ts (us ++ l ∷ (vs ++ rest)) e k d m)
+      (read_then _ (within loop false us s (l ∷ (vs ++ rest)) r (λ b. absurd (both_ways false refl b)))
+      (read_then _ (behind_again word_is.Else (inner loop) l (vs ++ rest) n (within loop dangles vs other rest q f))
+      (at_whole (λ at. roll-RawStmt (RawStmt-F.If at e s (Some other))) (i ∷ o ∷ (ts ++ c ∷ (us ++ l ∷ (vs ++ rest)))) all rest w)))))
   stmt_over_again _ _ _ _ rest (tree.while_true _ loop dangles all ts us i o c e s p h k d l r) f =
       let w : all ++ rest ≡ i ∷ o ∷ (ts ++ c ∷ (us ++ rest)) = ap (λ vs. vs ++ rest) p ∙ ap (λ vs. i ∷ o ∷ vs) (append_assoc ts (c ∷ us) rest) in
       ap (stmt_over inner loop) w ∙ by_first (stmt_by inner loop) i (o ∷ (ts ++ c ∷ (us ++ rest))) h
-        (read_then _ (keyword_again word_is.While i (o ∷ (ts ++ c ∷ (us ++ rest))) h)
-        (read_then _ (condition_again o c ts (us ++ rest) e k d l)
-        (read_then _ (within true dangles us s rest r f)
-        (at_whole (λ at. roll-RawStmt (RawStmt-F.While at e s)) (i ∷ o ∷ (ts ++ c ∷ (us ++ rest))) all rest w))))
+      (read_then _ (keyword_again word_is.While i (o ∷ (ts ++ c ∷ (us ++ rest))) h)
+      (read_then _ (condition_again o c ts (us ++ rest) e k d l)
+      (read_then _ (within true dangles us s rest r f)
+      (at_whole (λ at. roll-RawStmt (RawStmt-F.While at e s)) (i ∷ o ∷ (ts ++ c ∷ (us ++ rest))) all rest w))))
   stmt_over_again _ _ _ _ rest (tree.switch_on _ loop all ts us vs i o c b z e xs last p h k d l m q r n) f =
       let w : all ++ rest ≡ i ∷ o ∷ (ts ++ c ∷ b ∷ (us ++ (vs ++ z ∷ rest))) = ap (λ vs. vs ++ rest) p ∙ ap (λ vs. i ∷ o ∷ vs) (append_assoc ((ts ++ c ∷ b ∷ us) ++ vs) (z ∷ []) rest ∙ append_assoc (ts ++ c ∷ b ∷ us) vs (z ∷ rest) ∙ append_assoc ts (c ∷ b ∷ us) (vs ++ z ∷ rest)) in
       ap (stmt_over inner loop) w ∙ by_first (stmt_by inner loop) i (o ∷ (ts ++ c ∷ b ∷ (us ++ (vs ++ z ∷ rest)))) h
-        (read_then _ (keyword_again word_is.Switch i (o ∷ (ts ++ c ∷ b ∷ (us ++ (vs ++ z ∷ rest)))) h)
-        (read_then _ (condition_again o c ts (b ∷ (us ++ (vs ++ z ∷ rest))) e k d l)
-        (read_then _ (mark_again mark.OpenCurly b (us ++ (vs ++ z ∷ rest)) m)
-        (read_then _ (cases_again us xs (vs ++ z ∷ rest) q (default_ends vs last z rest r n) (no_case_left vs last z rest r n))
-        (read_then _ (default_again vs last z rest r n)
-        (read_then _ (mark_again mark.CloseCurly z rest n)
-        (at_whole (λ at. roll-RawStmt (RawStmt-F.Switch at e xs last)) (i ∷ o ∷ (ts ++ c ∷ b ∷ (us ++ (vs ++ z ∷ rest)))) all rest w)))))))
+      (read_then _ (keyword_again word_is.Switch i (o ∷ (ts ++ c ∷ b ∷ (us ++ (vs ++ z ∷ rest)))) h)
+      (read_then _ (condition_again o c ts (b ∷ (us ++ (vs ++ z ∷ rest))) e k d l)
+      (read_then _ (mark_again mark.OpenCurly b (us ++ (vs ++ z ∷ rest)) m)
+      (read_then _ (cases_again us xs (vs ++ z ∷ rest) q (default_ends vs last z rest r n) (no_case_left vs last z rest r n))
+      (read_then _ (default_again vs last z rest r n)
+      (read_then _ (mark_again mark.CloseCurly z rest n)
+      (at_whole (λ at. roll-RawStmt (RawStmt-F.Switch at e xs last)) (i ∷ o ∷ (ts ++ c ∷ b ∷ (us ++ (vs ++ z ∷ rest)))) all rest w)))))))
   stmt_over_again _ _ _ _ rest (tree.assigned _ loop all ts t a c v e p h k d l) f = set_again inner loop all ts t a c v e rest p h k d l
   stmt_over_again _ _ _ _ rest (tree.called _ loop all ts c g p d h) f = do_again inner loop all ts c g rest p d h
   stmt_over_again _ _ _ _ rest (tree.return_alone _ loop r c h k) f = return_alone_again inner loop r c rest h k
@@ -124,10 +124,10 @@ module _ (room : ℕ) (inner : Bool → Reader RawStmt) (within : (loop dangles 
   stmt_over_again _ _ _ _ rest (tree.group_of _ loop all ts b z ss p h d k) f =
       let w : all ++ rest ≡ b ∷ (ts ++ z ∷ rest) = ap (λ vs. vs ++ rest) p ∙ ap (λ vs. b ∷ vs) (append_assoc ts (z ∷ []) rest) in
       ap (stmt_over inner loop) w ∙ by_first (stmt_by inner loop) b (ts ++ z ∷ rest) h
-        (read_then _ (mark_again mark.OpenCurly b (ts ++ z ∷ rest) h)
-        (read_then _ (stmts_again loop ts ss (z ∷ rest) d (at_first (λ o. ends_list o ≡ true) z rest k refl))
-        (read_then _ (mark_again mark.CloseCurly z rest k)
-        (at_whole (λ at. roll-RawStmt (RawStmt-F.Group at ss)) (b ∷ (ts ++ z ∷ rest)) all rest w))))
+      (read_then _ (mark_again mark.OpenCurly b (ts ++ z ∷ rest) h)
+      (read_then _ (stmts_again loop ts ss (z ∷ rest) d (at_first (λ o. ends_list o ≡ true) z rest k refl))
+      (read_then _ (mark_again mark.CloseCurly z rest k)
+      (at_whole (λ at. roll-RawStmt (RawStmt-F.Group at ss)) (b ∷ (ts ++ z ∷ rest)) all rest w))))
   stmt_over_again _ _ _ _ rest (tree.empty _ loop c h) f = empty_again inner loop c rest h
 
 stmt_again : (room : ℕ) (loop dangles : Bool) (us : List Token) (s : RawStmt) (rest : List Token) → StmtIs room loop dangles us s → (dangles ≡ true → sees_keyword word_is.Else rest ≡ false) → stmt room loop (us ++ rest) ≡ Some (s, rest)

@@ -19,7 +19,7 @@ pub data StmtBegins : List Token → Type 0 where
   stmt_begins : (t : Token) (ts : List Token) → ends_list (Some t.lexeme) ≡ false → is_keyword word_is.Else t.lexeme ≡ false → StmtBegins (t ∷ ts)
 
 by_lexeme : (t : Token) (ts us : List Token) {x : Lexeme} → us ≡ t ∷ ts → IsA x t → ends_list (Some x) ≡ false → is_keyword word_is.Else x ≡ false → StmtBegins us
-by_lexeme t ts us {x} e h k l = subst StmtBegins (sym e) (subst (λ (y : Lexeme). (ends_list (Some y) ≡ false) × (is_keyword word_is.Else y ≡ false) → StmtBegins (t ∷ ts)) h (λ p. stmt_begins t ts (subst (λ (y : Lexeme). ends_list (Some y) ≡ false) (sym h) k) (subst (λ (y : Lexeme). is_keyword word_is.Else y ≡ false) (sym h) l)) (k, l))
+by_lexeme t ts us e h k l = subst StmtBegins (sym e) (stmt_begins t ts (subst (λ (y : Lexeme). ends_list (Some y) ≡ false) (sym h) k) (subst (λ (y : Lexeme). is_keyword word_is.Else y ≡ false) (sym h) l))
 
 call_begins : (us ts : List Token) (c : RawCall) → CallIs us c → StmtBegins (us ++ ts)
 call_begins _ ts _ (tree.plain_call f left right s h k e) = by_lexeme f (left ∷ right ∷ ts) _ refl h refl refl

@@ -72,7 +72,7 @@ if_else_is : (room : ℕ) (loop before dangles : Bool) (i l : Token) (cs us vs :
 if_else_is room loop true dangles i l _ us vs _ s other h (condition_is o c ts e j d k) r f m q = absurd (f refl)
 if_else_is room loop false dangles i l _ us vs _ s other h (condition_is o c ts e j d k) r f m q =
     tree.if_else room loop dangles (i ∷ (o ∷ ts ++ c ∷ []) ++ (us ++ l ∷ vs)) ts us vs i o c l e s other
-      (ap (λ us. i ∷ o ∷ us) (append_assoc ts (c ∷ []) (us ++ l ∷ vs) ∙ sym (append_assoc ts (c ∷ us) (l ∷ vs)))) h j d k r m q
+    (ap (λ us. i ∷ o ∷ us) (append_assoc ts (c ∷ []) (us ++ l ∷ vs) ∙ sym (append_assoc ts (c ∷ us) (l ∷ vs)))) h j d k r m q
 
 while_is : (room : ℕ) (loop dangles : Bool) (i : Token) (cs us : List Token) (e : RawExpr) (s : RawStmt) → IsKeyword word_is.While i → ConditionIs cs e → StmtIs room true dangles us s → StmtIs (suc room) loop dangles (i ∷ cs ++ us) (roll-RawStmt (RawStmt-F.While (whole (i ∷ cs ++ us)) e s))
 while_is room loop dangles i _ us _ s h (condition_is o c ts e j d k) r = tree.while_true room loop dangles (i ∷ (o ∷ ts ++ c ∷ []) ++ us) ts us i o c e s (ap (λ us. i ∷ o ∷ us) (append_assoc ts (c ∷ []) us)) h j d k r
@@ -80,8 +80,8 @@ while_is room loop dangles i _ us _ s h (condition_is o c ts e j d k) r = tree.w
 switch_is : (room : ℕ) (loop : Bool) (w b d : Token) (cs us vs : List Token) (e : RawExpr) (xs : List (Val × List RawStmt)) (last : List RawStmt) → IsKeyword word_is.Switch w → ConditionIs cs e → IsMark mark.OpenCurly b → CasesAre room us xs → DefaultIs room vs last → IsMark mark.CloseCurly d → StmtIs (suc room) loop false (w ∷ cs ++ b ∷ (us ++ (vs ++ d ∷ []))) (roll-RawStmt (RawStmt-F.Switch (whole (w ∷ cs ++ b ∷ (us ++ (vs ++ d ∷ [])))) e xs last))
 switch_is room loop w b d _ us vs _ xs last h (condition_is o c ts e j i k) m q r n =
     tree.switch_on room loop (w ∷ (o ∷ ts ++ c ∷ []) ++ b ∷ (us ++ (vs ++ d ∷ []))) ts us vs w o c b d e xs last
-      (ap (λ us. w ∷ o ∷ us) (append_assoc ts (c ∷ []) (b ∷ (us ++ (vs ++ d ∷ []))) ∙ sym (append_assoc ts (c ∷ b ∷ us) (vs ++ d ∷ [])) ∙ sym (append_assoc (ts ++ c ∷ b ∷ us) vs (d ∷ []))))
-      h j i k m q r n
+    (ap (λ us. w ∷ o ∷ us) (append_assoc ts (c ∷ []) (b ∷ (us ++ (vs ++ d ∷ []))) ∙ sym (append_assoc ts (c ∷ b ∷ us) (vs ++ d ∷ [])) ∙ sym (append_assoc (ts ++ c ∷ b ∷ us) vs (d ∷ []))))
+    h j i k m q r n
 
 -- ---- what is read
 
@@ -120,23 +120,23 @@ module _ (room : ℕ) (inner : Bool → Reader RawStmt) (within : (loop : Bool) 
           let q = append_assoc c.front (f.front ++ l ∷ after.front) rest in
           let r = append_assoc f.front (l ∷ after.front) rest in
           at_place (suc room) loop after.dangles (λ at. roll-RawStmt (RawStmt-F.If at e s (Some other))) ts (i ∷ c.front ++ (f.front ++ l ∷ after.front)) rest
-            (p ∙ ap (λ us. i ∷ us) (c.whole ∙ ap (λ us. c.front ++ us) (f.whole ∙ ap (λ us. f.front ++ us) (g.2 ∙ ap (λ us. l ∷ us) after.whole) ∙ sym r) ∙ sym q))
-            (if_else_is room loop f.dangles after.dangles i l c.front f.front after.front e s other h c.is f.is (λ d. both_ways _ (f.ends d) (ap (sees_keyword word_is.Else) g.2 ∙ sees_word word_is.Else l g.1 g.3)) g.3 after.is)
-            after.ends
+          (p ∙ ap (λ us. i ∷ us) (c.whole ∙ ap (λ us. c.front ++ us) (f.whole ∙ ap (λ us. f.front ++ us) (g.2 ∙ ap (λ us. l ∷ us) after.whole) ∙ sym r) ∙ sym q))
+          (if_else_is room loop f.dangles after.dangles i l c.front f.front after.front e s other h c.is f.is (λ d. both_ways _ (f.ends d) (ap (sees_keyword word_is.Else) g.2 ∙ sees_word word_is.Else l g.1 g.3)) g.3 after.is)
+          after.ends
 
   while_takes : (loop : Bool) (ts : List Token) → OnRead (StmtFound (suc room) loop ts) (while_of inner ts)
   unfolding while_of
   while_takes loop ts = and_so (keyword_takes word_is.While ts) (λ _ u i. and_so (condition_takes u) (λ e v c. and_so (within true v) (λ s rest f.
       found _ rest (at_place (suc room) loop f.dangles (λ at. roll-RawStmt (RawStmt-F.While at e s)) ts (i.token ∷ c.front ++ f.front) rest
-        (let p = append_assoc c.front f.front rest in cc)
-        (while_is room loop f.dangles i.token c.front f.front e s i.is c.is f.is) f.ends))))
+      (let p = append_assoc c.front f.front rest in cc)
+      (while_is room loop f.dangles i.token c.front f.front e s i.is c.is f.is) f.ends))))
 
   group_takes : (loop : Bool) (ts : List Token) → OnRead (StmtFound (suc room) loop ts) (group inner loop ts)
   unfolding group
   group_takes loop ts = and_so (mark_takes mark.OpenCurly ts) (λ _ u b. and_so (stmts_takes loop u) (λ ss v f. and_so (mark_takes mark.CloseCurly v) (λ _ rest d.
       found _ rest (simple (suc room) loop (λ at. roll-RawStmt (RawStmt-F.Group at ss)) ts (b.token ∷ f.front ++ d.token ∷ []) rest
-        (let p = append_assoc f.front (d.token ∷ []) rest in cc)
-        (tree.group_of room loop (b.token ∷ f.front ++ d.token ∷ []) f.front b.token d.token ss refl b.is f.is d.is)))))
+      (let p = append_assoc f.front (d.token ∷ []) rest in cc)
+      (tree.group_of room loop (b.token ∷ f.front ++ d.token ∷ []) f.front b.token d.token ss refl b.is f.is d.is)))))
 
   case_takes : Takes (CaseBody room) (case_of inner)
   unfolding case_of
@@ -165,8 +165,8 @@ module _ (room : ℕ) (inner : Bool → Reader RawStmt) (within : (loop : Bool) 
   unfolding switch_of
   switch_takes loop ts = and_so (keyword_takes word_is.Switch ts) (λ _ u w. and_so (condition_takes u) (λ e v c. and_so (mark_takes mark.OpenCurly v) (λ _ x b. and_so (cases_takes x) (λ xs y f. and_so (default_takes y) (λ last z g. and_so (mark_takes mark.CloseCurly z) (λ _ rest d.
       found _ rest (simple (suc room) loop (λ at. roll-RawStmt (RawStmt-F.Switch at e xs last)) ts (w.token ∷ c.front ++ b.token ∷ (f.front ++ (g.front ++ d.token ∷ []))) rest
-        (let p = append_assoc c.front (b.token ∷ (f.front ++ (g.front ++ d.token ∷ []))) rest in let q = append_assoc f.front (g.front ++ d.token ∷ []) rest in let r = append_assoc g.front (d.token ∷ []) rest in cc)
-        (switch_is room loop w.token b.token d.token c.front f.front g.front e xs last w.is c.is b.is f.is g.is d.is))))))))
+      (let p = append_assoc c.front (b.token ∷ (f.front ++ (g.front ++ d.token ∷ []))) rest in let q = append_assoc f.front (g.front ++ d.token ∷ []) rest in let r = append_assoc g.front (d.token ∷ []) rest in cc)
+      (switch_is room loop w.token b.token d.token c.front f.front g.front e xs last w.is c.is b.is f.is g.is d.is))))))))
 
   stmt_found : (loop : Bool) (x : Lexeme) (ts : List Token) → OnRead (StmtFound (suc room) loop ts) (stmt_by inner loop (Some x) ts)
   stmt_found loop (lexeme.Keyword word_is.If) ts = if_takes loop ts
