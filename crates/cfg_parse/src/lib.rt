@@ -5,7 +5,6 @@ mod calls;
 mod exprs;
 mod fault;
 pub mod laws;
-
 mod script;
 mod stmts;
 mod tokens;
