@@ -1,0 +1,339 @@
+// Scripts: parameters, modules and blocks.
+
+ghost use Rattle.std.specs.Prelude.{◌≡◌, []};
+ghost use Rattle.cfg_parse.specs.Reader.{Reads, one};
+ghost use Rattle.cfg_parse.specs.Calls as calls;
+ghost use Rattle.cfg_parse.specs.Script as spec;
+ghost use Rattle.cfg_parse.specs.Script.{ReadsAll};
+
+use crate::calls::{block_name, name, string};
+use crate::fault::Fault;
+use crate::stmts::body;
+use crate::tokens::Tokens;
+use cfg_tree::{Keyword, Lexeme, Mark, RawBlock, RawItem, RouteKind, Setting, Token, Word};
+use pv_values::{BlockKind, Place};
+use sqlite_items::Items;
+use std::alloc::Global;
+
+/// The kinds of block that a word begins: without a name, and with one.
+#[derive(Clone, Copy)]
+pub struct Kinds {
+    alone: Option<RouteKind>,
+    named: Option<RouteKind>,
+}
+
+/// The kinds of block that `route` begins.
+fn route_kinds() -> Kinds
+    ensures { result ≡ spec.route_kinds }
+{
+    Kinds {
+        alone: Some(RouteKind::Begins(BlockKind::Request)),
+        named: Some(RouteKind::Route),
+    }
+}
+
+/// The kinds of block that another word begins.
+#[tactic(auto, unfolding(crate::specs::Script::kinds_of))]
+fn kinds_of(word: &[u8]) -> Kinds
+    ensures { result ≡ spec.kinds_of word.now }
+{
+    if word == b"request_route".as_slice() {
+        Kinds {
+            alone: Some(RouteKind::Begins(BlockKind::Request)),
+            named: None,
+        }
+    } else if word == b"reply_route".as_slice() {
+        Kinds {
+            alone: Some(RouteKind::Begins(BlockKind::Reply)),
+            named: None,
+        }
+    } else if word == b"onreply_route".as_slice() {
+        Kinds {
+            alone: Some(RouteKind::Begins(BlockKind::Reply)),
+            named: Some(RouteKind::Begins(BlockKind::Reply)),
+        }
+    } else if word == b"branch_route".as_slice() {
+        Kinds {
+            alone: None,
+            named: Some(RouteKind::Begins(BlockKind::Branch)),
+        }
+    } else if word == b"failure_route".as_slice() {
+        Kinds {
+            alone: None,
+            named: Some(RouteKind::Begins(BlockKind::Failure)),
+        }
+    } else if word == b"event_route".as_slice() {
+        Kinds {
+            alone: None,
+            named: Some(RouteKind::Begins(BlockKind::Event)),
+        }
+    } else {
+        Kinds {
+            alone: None,
+            named: None,
+        }
+    }
+}
+
+/// `NUMBER | STRING | NAME | LISTEN`
+#[tactic(auto, unfolding(crate::specs::Script::setting_of, crate::specs::Reader::one, crate::specs::Reader::next, crate::specs::Reader::passed))]
+fn setting(alloc: Global, tokens: &mut Tokens<'_>) -> Result<Setting, Fault>
+    ensures { Reads (spec.setting_of tokens.old) result tokens.new }
+{
+    match tokens.token() {
+        Some(
+            Token {
+                lexeme: Lexeme::Number(n),
+                ..
+            },
+        ) => {
+            let n = *n;
+            if n < 0 {
+                return Err(tokens.refuse());
+            }
+            tokens.pass();
+            Ok(Setting::Number(n))
+        }
+        Some(
+            Token {
+                lexeme: Lexeme::String(text),
+                ..
+            },
+        ) => {
+            tokens.pass();
+            Ok(Setting::String(text.copy(alloc)?))
+        }
+        Some(
+            Token {
+                lexeme: Lexeme::Name(text),
+                ..
+            },
+        ) => {
+            tokens.pass();
+            Ok(Setting::Name(text.copy(alloc)?))
+        }
+        Some(
+            Token {
+                lexeme: Lexeme::Listen(listen),
+                ..
+            },
+        ) => {
+            tokens.pass();
+            Ok(Setting::Listen(*listen))
+        }
+        _ => Err(tokens.refuse()),
+    }
+}
+
+/// `STRING | NUMBER`
+#[tactic(auto, unfolding(crate::specs::Script::value_of, crate::specs::Reader::one, crate::specs::Reader::next, crate::specs::Reader::passed))]
+fn value(alloc: Global, tokens: &mut Tokens<'_>) -> Result<Setting, Fault>
+    ensures { Reads (spec.value_of tokens.old) result tokens.new }
+{
+    match tokens.token() {
+        Some(
+            Token {
+                lexeme: Lexeme::Number(n),
+                ..
+            },
+        ) => {
+            let n = *n;
+            if n < 0 {
+                return Err(tokens.refuse());
+            }
+            tokens.pass();
+            Ok(Setting::Number(n))
+        }
+        Some(
+            Token {
+                lexeme: Lexeme::String(text),
+                ..
+            },
+        ) => {
+            tokens.pass();
+            Ok(Setting::String(text.copy(alloc)?))
+        }
+        _ => Err(tokens.refuse()),
+    }
+}
+
+/// `"loadmodule" STRING [";"]`
+#[tactic(auto, unfolding(crate::specs::Script::module_of))]
+fn module(alloc: Global, tokens: &mut Tokens<'_>) -> Result<RawItem, Fault>
+    ensures { Reads (spec.module_of tokens.old) result tokens.new }
+{
+    tokens.keyword(Keyword::Loadmodule)?;
+    let name = string(alloc, tokens)?;
+    tokens.eat_mark(Mark::Semicolon);
+    Ok(RawItem::Module(name))
+}
+
+/// `"modparam" "(" STRING "," STRING "," ( STRING | NUMBER ) ")" [";"]`
+#[tactic(auto, unfolding(crate::specs::Script::module_parameter))]
+fn module_parameter(alloc: Global, tokens: &mut Tokens<'_>) -> Result<RawItem, Fault>
+    ensures { Reads (spec.module_parameter tokens.old) result tokens.new }
+{
+    tokens.keyword(Keyword::Modparam)?;
+    tokens.mark(Mark::OpenRound)?;
+    let module = string(alloc, tokens)?;
+    tokens.mark(Mark::Comma)?;
+    let name = string(alloc, tokens)?;
+    tokens.mark(Mark::Comma)?;
+    let value = value(alloc, tokens)?;
+    tokens.mark(Mark::CloseRound)?;
+    tokens.eat_mark(Mark::Semicolon);
+    Ok(RawItem::ModuleParameter(module, name, value))
+}
+
+/// `( NUMBER | STRING | NAME | LISTEN ) [";"]`, behind `NAME "="`
+#[tactic(auto, unfolding(crate::specs::Script::parameter))]
+fn parameter(alloc: Global, tokens: &mut Tokens<'_>, name: Word) -> Result<RawItem, Fault>
+    ensures { Reads (spec.parameter name tokens.old) result tokens.new }
+{
+    let value = setting(alloc, tokens)?;
+    tokens.eat_mark(Mark::Semicolon);
+    Ok(RawItem::Parameter(name, value))
+}
+
+/// `[ "[" BNAME "]" ]`, behind the word that begins a block. A name where the word takes none, and what is no
+/// name where the word takes one, is a fault by itself.
+#[tactic(auto, unfolding(crate::specs::Script::head_of))]
+fn head(
+    alloc: Global,
+    tokens: &mut Tokens<'_>,
+    kinds: Kinds,
+) -> Result<(RouteKind, Option<Word>), Fault>
+    ensures { Reads (spec.head_of kinds tokens.old) result tokens.new }
+{
+    let Some(Lexeme::Mark(Mark::OpenSquare)) = tokens.first() else {
+        return match kinds.alone {
+            Some(kind) => Ok((kind, None)),
+            None => Err(tokens.refuse()),
+        };
+    };
+    let Some(kind) = kinds.named else {
+        return Err(tokens.refuse());
+    };
+    tokens.mark(Mark::OpenSquare)?;
+    let name = block_name(alloc, tokens)?;
+    tokens.mark(Mark::CloseSquare)?;
+    Ok((kind, Some(name)))
+}
+
+/// `[ "[" BNAME "]" ] "{" { stmt } "}"`, behind the word that begins the block, which stands at `kind_at`
+#[tactic(auto, unfolding(crate::specs::Script::block))]
+fn block(
+    alloc: Global,
+    tokens: &mut Tokens<'_>,
+    start: &[Token],
+    kind_at: Place,
+    kinds: Kinds,
+) -> Result<RawItem, Fault>
+    ensures { Reads (spec.block start.now kind_at kinds tokens.old) result tokens.new }
+{
+    let (kind, name) = head(alloc, tokens, kinds)?;
+    tokens.mark(Mark::OpenCurly)?;
+    let body = body(alloc, tokens)?;
+    tokens.mark(Mark::CloseCurly)?;
+    Ok(RawItem::Block(RawBlock {
+        kind,
+        name,
+        kind_at,
+        at: tokens.since(start),
+        body,
+    }))
+}
+
+/// `"route"`, and where it stands
+#[tactic(auto, unfolding(crate::specs::Reader::one, crate::specs::Reader::next, crate::specs::Reader::passed))]
+fn route_word(tokens: &mut Tokens<'_>) -> Result<Place, Fault>
+    ensures { Reads (one spec.route_in tokens.old) result tokens.new }
+{
+    let Some(
+        Token {
+            lexeme: Lexeme::Keyword(Keyword::Route),
+            at,
+        },
+    ) = tokens.token()
+    else {
+        return Err(tokens.refuse());
+    };
+    tokens.pass();
+    Ok(*at)
+}
+
+/// A block that begins with `route`.
+#[tactic(auto, unfolding(crate::specs::Script::route_block))]
+fn route_block(alloc: Global, tokens: &mut Tokens<'_>) -> Result<RawItem, Fault>
+    ensures { Reads (spec.route_block tokens.old) result tokens.new }
+{
+    let start = tokens.here();
+    let at = route_word(tokens)?;
+    block(alloc, tokens, start, at, route_kinds())
+}
+
+/// A parameter or a block that begins with a name.
+#[tactic(auto, unfolding(crate::specs::Script::named_item))]
+fn named_item(alloc: Global, tokens: &mut Tokens<'_>) -> Result<RawItem, Fault>
+    ensures { Reads (spec.named_item tokens.old) result tokens.new }
+{
+    let start = tokens.here();
+    let name = name(alloc, tokens)?;
+    if tokens.eat_mark(Mark::Assign) {
+        parameter(alloc, tokens, name)
+    } else {
+        block(alloc, tokens, start, name.at, kinds_of(name.text.bytes()))
+    }
+}
+
+/// A parameter, a module or a block.
+#[tactic(auto, unfolding(crate::specs::Script::item_of))]
+fn item(alloc: Global, tokens: &mut Tokens<'_>) -> Result<RawItem, Fault>
+    ensures { Reads (spec.item_of tokens.old) result tokens.new }
+{
+    match tokens.first() {
+        Some(Lexeme::Keyword(Keyword::Loadmodule)) => module(alloc, tokens),
+        Some(Lexeme::Keyword(Keyword::Modparam)) => module_parameter(alloc, tokens),
+        Some(Lexeme::Keyword(Keyword::Route)) => route_block(alloc, tokens),
+        _ => named_item(alloc, tokens),
+    }
+}
+
+/// The next of them, if any token is left.
+#[tactic(auto, unfolding(crate::specs::Script::next_item))]
+fn next_item(alloc: Global, tokens: &mut Tokens<'_>) -> Result<Option<RawItem>, Fault>
+    ensures { Reads (spec.next_item tokens.old) result tokens.new }
+{
+    match tokens.first() {
+        None => Ok(None),
+        Some(_) => Ok(Some(item(alloc, tokens)?)),
+    }
+}
+
+/// Parameters, modules and blocks. Each turn passes a token.
+#[tactic(auto, using(crate::proofs::Turns::turns), unfolding(crate::specs::Script::items, crate::specs::Reader::many))]
+fn items(alloc: Global, tokens: &mut Tokens<'_>) -> Result<Items<RawItem>, Fault>
+    ensures { Reads (spec.items tokens.old) result tokens.new }
+{
+    let mut found = Items::new(alloc);
+    for _turn in 0..tokens.count() {
+        let Some(next) = next_item(alloc, tokens)? else {
+            return Ok(found);
+        };
+        found.push(next)?;
+    }
+    Ok(found)
+}
+
+/// Those of all the tokens of a text of this length.
+#[tactic(auto, unfolding(crate::specs::Script::script_at))]
+pub fn script(alloc: Global, tokens: &[Token], end: usize) -> Result<Items<RawItem>, Fault>
+    ensures { ReadsAll (spec.script_at tokens.now) result }
+{
+    let mut tokens = Tokens::new(tokens, end);
+    let items = items(alloc, &mut tokens)?;
+    if tokens.count() > 0 {
+        return Err(tokens.refuse());
+    }
+    Ok(items)
+}
