@@ -3,3 +3,4 @@ pub mod Parts
 pub mod Exprs
 pub mod Stmts
 pub mod Shapes
+pub mod Safety

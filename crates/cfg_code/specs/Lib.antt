@@ -3,3 +3,4 @@ pub mod Code
 pub mod Machine
 pub mod Follows
 pub mod Sound
+pub mod Safe

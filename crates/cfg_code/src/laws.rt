@@ -1,15 +1,17 @@
 // What code has to do with the script that it stands for.
 
-ghost use Rattle.std.specs.Prelude.{ℕ, List};
+ghost use Rattle.std.specs.Prelude.{◌≢◌, ℕ, List};
 ghost use Rattle.pv_values.specs.declared.run.Env.{Env};
 ghost use Rattle.cfg_tree.specs.declared.script.Stmt.{Stmt};
 ghost use Rattle.cfg_tree.specs.declared.script.Script.{Script};
 ghost use Rattle.cfg_tree.specs.Meaning.{dialogue};
 ghost use Rattle.cfg_code.specs.declared.code.Loaded.{Loaded};
 ghost use Rattle.cfg_code.specs.Code.{block_code};
-ghost use Rattle.cfg_code.specs.Machine.{begun};
+ghost use Rattle.cfg_code.specs.declared.machine.Event.TheVariants.{Stuck};
+ghost use Rattle.cfg_code.specs.Machine.{Configuration, begun, step_of};
 ghost use Rattle.cfg_code.specs.Follows.{Stands, Behaves};
-ghost use Rattle.cfg_code.specs.Sound.{Shape, nothing, Shaped};
+ghost use Rattle.cfg_code.specs.Sound.{Shape, nothing, Shaped, AllSound};
+ghost use Rattle.cfg_code.specs.Safe.{Reaches};
 
 /// Code that stands for a script means what the script means: a run of a block asks and ends exactly
 /// as the block does, whatever it is answered.
@@ -22,4 +24,11 @@ pub fn the_code_means_the_script()
 /// what they take.
 pub fn the_code_of_a_block_is_sound()
     ensures { (block : List Stmt) (behind : List Shape) → Shaped (block_code block) nothing behind }
+{}
+
+/// Sound code never gets stuck, whatever a run of it is answered: each place that it comes to is in the
+/// code, and each instruction there finds the values and the loop that it takes.
+pub fn sound_code_is_never_stuck()
+    ensures { (loaded : Loaded) → AllSound loaded.code.instrs loaded.code.entries → (block : ℕ) (env : Env) (r : Configuration)
+        → Reaches loaded (begun loaded block env) r → (step_of loaded r).event ≢ Stuck }
 {}

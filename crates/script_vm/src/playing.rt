@@ -26,7 +26,10 @@ pub enum Played {
 pub fn play(alloc: Global, loaded: &Loaded, block: u32, env: Env, answers: &[HostAnswer]) -> Played
     ensures { (script : Script) → Stands loaded.now script → IsPlayed (meaning script block env answers.now) answers.now result }
 {
-    let mut run = Run::begin(alloc, loaded, block, env);
+    let Ok(begun) = Run::begin(alloc, loaded, block, env) else {
+        return Played::NoMemory;
+    };
+    let mut run = begun;
     let mut answer = HostAnswer::Start;
     let mut taken = 0;
     'answers: loop {

@@ -49,11 +49,11 @@ pub enum RunNext {
 impl Run {
     /// A run of the block of this number, with these variables. The first answer that it takes is
     /// `Start`.
-    pub fn begin(alloc: Global, loaded: &Loaded, block: u32, env: Env) -> Run
-        ensures { (script : Script) → Stands loaded.now script → Waits loaded.now (configuration result) (λ _. dialogue script block env) }
+    pub fn begin(alloc: Global, loaded: &Loaded, block: u32, env: Env) -> Result<Run, NoMemory>
+        ensures { IfOk result (λ run. (script : Script) → Stands loaded.now script → Waits loaded.now (configuration run) (λ _. dialogue script block env)) }
     {
         the_code_means_the_script();
-        Run {
+        Ok(Run {
             place: loaded.code.entry(block),
             stack: Stack::new(alloc),
             arguments: Vals::new(alloc),
@@ -62,7 +62,7 @@ impl Run {
             env,
             left: MAX_STATEMENTS,
             wait: Wait::Start,
-        }
+        })
     }
 
     /// Takes the answer to the last ask, and goes on to the next one or to the end, as the script

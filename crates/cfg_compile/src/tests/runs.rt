@@ -59,39 +59,59 @@ fn a_route_of_code_0_ends_the_run(rt: HostRuntime) -> Result<(), Fail> {
     Ok(())
 }
 
-/// `$var(d) = $var(d) + 1; route(D);`, as `route[D]` itself, and called by the first block.
-#[test]
-fn calls_are_nested_256_deep(rt: HostRuntime) -> Result<(), Fail> {
-    let alloc = rt.alloc();
-    let more = chain(alloc, var(0), BinOp::Add, number(1))?;
+/// `route(D);` with `route[D] { $var(d) = $var(d) + 1; if ($var(d) < N) route(D); }`
+fn nests(alloc: Global, n: i64) -> Result<Loaded, AllocError> {
     let first = one(alloc, Stmt::Do(Expr::Route(1)))?;
-    let second = two(alloc, set(0, more), Stmt::Do(Expr::Route(1)))?;
+    let more = chain(alloc, var(0), BinOp::Add, number(1))?;
+    let test = chain(alloc, var(0), BinOp::Lt, number(n))?;
+    let then = one(alloc, Stmt::Do(Expr::Route(1)))?;
+    let second = two(alloc, set(0, more), when(alloc, test, then))?;
     let blocks = two(alloc, first, second)?;
-    let loaded = compile(alloc, script(alloc, blocks))?;
-    assert!(rt; ended(played(alloc, &loaded, &[])?, How::DepthLimit, 0, 256));
+    compile(alloc, script(alloc, blocks))
+}
+
+#[test]
+fn calls_may_be_nested_256_deep(rt: HostRuntime) -> Result<(), Fail> {
+    let alloc = rt.alloc();
+    let deep = nests(alloc, 256)?;
+    assert!(rt; ended(played(alloc, &deep, &[])?, How::Normal, 0, 256));
+    let deeper = nests(alloc, 257)?;
+    assert!(rt; ended(played(alloc, &deeper, &[])?, How::DepthLimit, 0, 256));
     Ok(())
 }
 
-/// `while (1) { .. }` with a hundred times `$var(a) = $var(a) + 1;`, where a loop may make 1,000 rounds.
-fn long_loop(alloc: Global) -> Result<Loaded, AllocError> {
-    let mut body = Items::new(alloc);
-    for _ in 0..100 {
-        let more = chain(alloc, var(0), BinOp::Add, number(1))?;
-        body.push(set(0, more))?;
+/// So many times `$var(i) = $var(i);`
+fn idles(alloc: Global, count: u32) -> Result<Items<Stmt>, AllocError> {
+    let mut list = Items::new(alloc);
+    for _ in 0..count {
+        list.push(set(0, var(0)))?;
     }
-    let block = one(alloc, Stmt::While(number(1), body))?;
+    Ok(list)
+}
+
+/// `$var(i) = 0; while ($var(i) < 1000) { .. }`, where a round has 98 statements and a loop may make
+/// 1,000 rounds, and then so many more.
+fn long_run(alloc: Global, last: u32) -> Result<Loaded, AllocError> {
+    let mut body = idles(alloc, 97)?;
+    let more = chain(alloc, var(0), BinOp::Add, number(1))?;
+    body.push(set(0, more))?;
+    let test = chain(alloc, var(0), BinOp::Lt, number(1000))?;
+    let mut block = two(alloc, set(0, number(0)), Stmt::While(test, body))?;
+    block.append(idles(alloc, last)?)?;
     let blocks = one(alloc, block)?;
     let mut whole = script(alloc, blocks);
     whole.parameters.max_while_loops = 1000;
     compile(alloc, whole)
 }
 
-/// 990 rounds with their tests are 99,990 statements; then come a test and nine assignments.
+/// 1 + 1,001 + 98,000 + 998 statements are 100,000, and one more is too many.
 #[test]
 fn a_run_begins_100000_statements(rt: HostRuntime) -> Result<(), Fail> {
     let alloc = rt.alloc();
-    let loaded = long_loop(alloc)?;
-    assert!(rt; ended(played(alloc, &loaded, &[])?, How::ActionLimit, 0, 99009));
+    let whole = long_run(alloc, 998)?;
+    assert!(rt; ended(played(alloc, &whole, &[])?, How::Normal, 0, 1000));
+    let more = long_run(alloc, 999)?;
+    assert!(rt; ended(played(alloc, &more, &[])?, How::ActionLimit, 0, 1000));
     Ok(())
 }
 

@@ -5,7 +5,7 @@ use Rattle.script_vm.proofs.Plays.{IsOn, on_more, on_needs}
 use Rattle.script_vm.proofs.playing.play.Goals as goal
 
 pub answers-init : goal.answers-init
-answers-init c = record { within = omega arith; on = λ script stands. record { inner = _; waits = c.begin-run.ensures script stands; same = refl } }
+answers-init c = record { within = omega arith; on = λ script stands. record { inner = _; waits = c.in-Ok.ensures script stands; same = refl } }
 
 pub returns-then-taken-answers : goal.returns-then-taken-answers
 returns-then-taken-answers c = λ script stands.
@@ -20,7 +20,7 @@ answers-preserved c =
     let more = drop (taken + 1) answers in
     let h : taken < length answers = omega arith in
     let first : drop taken answers ≡ get_or answers taken x ∷ more = rw (add-one, drop-cons answers taken x h) in
-    let next : drop taken answers ≡ c.in-Ok.copy ∷ more = first ∙ ap (λ y. y ∷ more) (sym c.index-answers-taken.is ∙ sym c.in-Ok.ensures) in
+    let next : drop taken answers ≡ c.in-Ok-copied.copy ∷ more = first ∙ ap (λ y. y ∷ more) (sym c.index-answers-taken.is ∙ sym c.in-Ok-copied.ensures) in
     record {
       within = omega arith;
       on = λ script stands.
