@@ -1,0 +1,40 @@
+-- What the tokens before a place allow at it.
+use Rattle.std.specs.Prelude.{ℕ, Bool, true, false, List, codes, if◌then◌else◌}
+use Rattle.std.specs.Str.{bytes_eq}
+use Rattle.cfg_tree.specs.declared.token.Lexeme.{Lexeme}
+use Rattle.cfg_tree.specs.declared.token.Lexeme.TheVariants as lexeme
+use Rattle.cfg_tree.specs.declared.token.Keyword as keyword
+use Rattle.cfg_tree.specs.declared.token.Keyword.TheVariants as word
+use Rattle.cfg_tree.specs.declared.token.Mark as marks
+use Rattle.cfg_tree.specs.declared.token.Mark.TheVariants as mark
+use Rattle.cfg_lex.specs.declared.context.Context.{Context}
+use Rattle.cfg_lex.specs.declared.context.Context.TheVariants.{Plain, BehindListen, BehindRoute, Address, BlockName}
+
+-- behind the name `listen`
+abbrev pub behind_name : List ℕ → Context
+behind_name name = if bytes_eq name (codes "listen") then BehindListen else Plain
+
+-- behind the word `route`
+abbrev pub behind_keyword : keyword.Keyword → Context
+behind_keyword word.Route = BehindRoute
+behind_keyword _ = Plain
+
+-- a block's name may stand behind `[`
+abbrev pub behind_mark : Context → marks.Mark → Context
+behind_mark _ mark.OpenSquare = BlockName
+-- and behind the `(` that follows `route`
+behind_mark BehindRoute mark.OpenRound = BlockName
+-- LISTEN may stand behind the name `listen` and `=`
+behind_mark BehindListen mark.Assign = Address
+behind_mark _ _ = Plain
+
+-- what is allowed behind a token, by what was allowed at it
+unfoldable pub behind : Context → Lexeme → Context
+behind context (lexeme.Name name) = behind_name name
+behind context (lexeme.Keyword k) = behind_keyword k
+behind context (lexeme.Mark m) = behind_mark context m
+behind context (lexeme.Number n) = Plain
+behind context (lexeme.String s) = Plain
+behind context (lexeme.Variable v) = Plain
+behind context (lexeme.Listen l) = Plain
+behind context (lexeme.BlockName s) = Plain

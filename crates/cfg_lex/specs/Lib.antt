@@ -1,0 +1,11 @@
+pub mod Bytes
+pub mod Contexts
+pub mod Comments
+pub mod Words
+pub mod Marks
+pub mod Numbers
+pub mod Strings
+pub mod Variables
+pub mod Listens
+pub mod Shapes
+pub mod Tokens

@@ -1,0 +1,99 @@
+-- Where the parts of a variable stand, and where a text ends inside its brackets.
+use Rattle.std.specs.Prelude.{ℕ, ◌+◌, ◌-◌, ◌==◌, Bool, true, not, ◌&&◌, nat_le, is_none, List, [], ◌∷◌, length, take, drop, Option, Some, None, option_map, IfSome, ◌≤◌, if◌then◌else◌}
+use Rattle.cfg_tree.specs.declared.token.Variable.{Variable}
+use Rattle.cfg_tree.specs.Variables.{name_len, begins_with, before, before_close, named_at}
+use Rattle.cfg_lex.specs.declared.variable.Part.{Part}
+use Rattle.cfg_lex.specs.declared.variable.Form.{Form}
+
+abbrev pub part : ℕ → ℕ → Part
+part from len = record { from = from; len = len }
+
+-- NAME(INNER) with a name of this length
+abbrev pub with_inner : ℕ → Option ℕ → Option Form
+with_inner n None = None
+with_inner n (Some k) = Some record { name = part 0 n; inner = Some (part (n + 1) k); transformation = None; len = n + k + 2 }
+
+-- NAME or NAME(INNER) at the beginning of a text
+unfoldable pub named_form : List ℕ → Option Form
+named_form text =
+    let n = name_len text in
+    if n == 0 then None
+    else if begins_with 40 (drop n text) then with_inner n (before_close 0 (drop (n + 1) text))
+    else Some record { name = part 0 n; inner = None; transformation = None; len = n }
+
+-- one byte further on
+abbrev pub further : Part → Part
+further p = part (p.from + 1) p.len
+
+-- `{TRANSFORMATION})` behind the name and its inner text
+unfoldable pub with_transformation : List ℕ → Form → Option Form
+with_transformation text f =
+    let k = before 125 (drop (f.len + 2) text) in
+    if begins_with 123 (drop (f.len + 1) text) && begins_with 125 (drop (f.len + 2 + k) text) && begins_with 41 (drop (f.len + 3 + k) text)
+    then Some record {
+      name = further f.name;
+      inner = option_map further f.inner;
+      transformation = Some (part (f.len + 2) k);
+      len = f.len + k + 4;
+    } else None
+
+abbrev pub transformed : List ℕ → Option Form → Option Form
+transformed text None = None
+transformed text (Some f) = with_transformation text f
+
+-- the variable behind a `$`
+unfoldable pub form_at : List ℕ → Option Form
+form_at text = if begins_with 40 text then transformed text (named_form (drop 1 text)) else named_form text
+
+-- the variable that has these parts
+abbrev pub bytes_of : List ℕ → Part → List ℕ
+bytes_of text p = take p.len (drop p.from text)
+
+abbrev pub variable_of : List ℕ → Form → Variable
+variable_of text f = record {
+  name = bytes_of text f.name;
+  inner = option_map (bytes_of text) f.inner;
+  transformation = option_map (bytes_of text) f.transformation;
+}
+
+-- one more bracket is open behind a `(`, and one less behind a `)`
+abbrev pub opened_behind : ℕ → ℕ → ℕ
+opened_behind c opened = if c == 40 then opened + 1 else if c == 41 then opened - 1 else opened
+
+-- a `)`, where no bracket inside is open
+abbrev pub closes : ℕ → ℕ → Bool
+closes c opened = (opened == 0) && (c == 41)
+
+-- NAME( stands here, and its bracket isn't closed
+unfoldable pub is_open_name : List ℕ → Bool
+is_open_name text = let n = name_len text in
+    not (n == 0) && (begins_with 40 (drop n text) && is_none (before_close 0 (drop (n + 1) text)))
+
+-- the text ends before `{TRANSFORMATION})` does
+unfoldable pub is_open_transformation : List ℕ → Bool
+is_open_transformation [] = true
+is_open_transformation (c ∷ text) = (c == 123) && nat_le (length text) (before 125 text + 1)
+
+abbrev pub is_open_behind : List ℕ → Option Form → Bool
+is_open_behind text None = is_open_name text
+is_open_behind text (Some f) = is_open_transformation (drop f.len text)
+
+-- behind `$(` the text ends inside the brackets
+unfoldable pub is_open_bracket : List ℕ → Bool
+is_open_bracket [] = true
+is_open_bracket (c ∷ text) = is_open_behind (c ∷ text) (named_form (c ∷ text))
+
+-- the text behind a `$` ends inside a variable's brackets
+unfoldable pub is_cut_off : List ℕ → Bool
+is_cut_off text = if begins_with 40 text then is_open_bracket (drop 1 text) else is_open_name text
+
+-- a part lies in so many bytes
+abbrev pub LiesIn : ℕ → Part → Type 0
+LiesIn len p = p.from + p.len ≤ len
+
+-- the parts of a form, and all of it
+pub record IsWithin (len : ℕ) (f : Form) : Type 0 where
+  pub name : LiesIn len f.name
+  pub inner : IfSome f.inner (LiesIn len)
+  pub transformation : IfSome f.transformation (LiesIn len)
+  pub whole : f.len ≤ len
