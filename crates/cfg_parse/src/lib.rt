@@ -5,9 +5,10 @@ mod calls;
 mod exprs;
 mod fault;
 pub mod laws;
-
 mod script;
 mod stmts;
+#[cfg(test)]
+mod tests;
 mod tokens;
 mod tree;
 
