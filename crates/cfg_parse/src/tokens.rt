@@ -169,18 +169,16 @@ impl<'a> Tokens<'a> {
 }
 
 /// From the first byte of these tokens to their end.
+#[tactic(auto, using(crate::proofs::Places::ends))]
 fn whole(tokens: &[Token]) -> Place
     ensures { result ≡ tree.whole tokens.now }
 {
-    let mut to = 0;
-    if let [.., last] = tokens {
-        to = last.at.to;
-    }
     match tokens {
-        [first, ..] => Place {
+        [first, .., last] => Place {
             from: first.at.from,
-            to,
+            to: last.at.to,
         },
-        [] => Place { from: 0, to },
+        [only] => only.at,
+        [] => Place { from: 0, to: 0 },
     }
 }
