@@ -1,7 +1,6 @@
 -- Words, variables, arguments and calls, as they are read.
-use Rattle.std.specs.Prelude.{ℕ, ℤ, pos, negsuc, neg_ℤ, List, [], ◌∷◌, Option, Some, None, if◌then◌else◌}
+use Rattle.std.specs.Prelude.{ℤ, pos, neg_ℤ, List, [], ◌∷◌, Option, Some, None, if◌then◌else◌}
 use Rattle.pv_values.specs.declared.refusal.Place.{Place}
-use Rattle.cfg_tree.specs.declared.token.Token.{Token}
 use Rattle.cfg_tree.specs.declared.token.Lexeme.{Lexeme}
 use Rattle.cfg_tree.specs.declared.token.Lexeme.TheVariants as lexeme
 use Rattle.cfg_tree.specs.declared.token.Keyword.TheVariants as word_is
@@ -12,7 +11,7 @@ use Rattle.cfg_tree.specs.declared.raw.RawArg.{RawArg}
 use Rattle.cfg_tree.specs.declared.raw.RawArg.TheVariants as arg
 use Rattle.cfg_tree.specs.declared.raw.RawCall.{RawCall}
 use Rattle.cfg_tree.specs.declared.raw.RawCall.TheVariants as call
-use Rattle.cfg_parse.specs.Reader.{Reader, ◌>>=◌, ◌>>◌, ◌<$>◌, pure, refuse, first, one, pass, eat_mark, mark_of, keyword_of, behind_mark, many}
+use Rattle.cfg_parse.specs.Reader.{Reader, ◌>>=◌, ◌>>◌, ◌<$>◌, pure, first, one, pass, eat_mark, mark_of, keyword_of, behind_mark, many}
 
 -- ---- one token
 

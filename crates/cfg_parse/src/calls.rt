@@ -50,10 +50,12 @@ pub fn number(tokens: &mut Tokens<'_>) -> Result<i64, Fault>
     ensures value { Reads (spec.number tokens.old) result tokens.new }
     ensures not_negative { IfOk result (λ n. pos 0 ≤ℤ n) }
 {
-    let Some(Token {
-        lexeme: Lexeme::Number(n),
-        ..
-    }) = tokens.token()
+    let Some(
+        Token {
+            lexeme: Lexeme::Number(n),
+            ..
+        },
+    ) = tokens.token()
     else {
         return Err(tokens.refuse());
     };
@@ -70,7 +72,13 @@ pub fn number(tokens: &mut Tokens<'_>) -> Result<i64, Fault>
 pub fn string(alloc: Global, tokens: &mut Tokens<'_>) -> Result<Word, Fault>
     ensures { Reads (spec.string tokens.old) result tokens.new }
 {
-    let Some(Token { lexeme: Lexeme::String(text), at }) = tokens.token() else {
+    let Some(
+        Token {
+            lexeme: Lexeme::String(text),
+            at,
+        },
+    ) = tokens.token()
+    else {
         return Err(tokens.refuse());
     };
     tokens.pass();
@@ -82,7 +90,13 @@ pub fn string(alloc: Global, tokens: &mut Tokens<'_>) -> Result<Word, Fault>
 pub fn name(alloc: Global, tokens: &mut Tokens<'_>) -> Result<Word, Fault>
     ensures { Reads (spec.name tokens.old) result tokens.new }
 {
-    let Some(Token { lexeme: Lexeme::Name(text), at }) = tokens.token() else {
+    let Some(
+        Token {
+            lexeme: Lexeme::Name(text),
+            at,
+        },
+    ) = tokens.token()
+    else {
         return Err(tokens.refuse());
     };
     tokens.pass();
@@ -94,7 +108,13 @@ pub fn name(alloc: Global, tokens: &mut Tokens<'_>) -> Result<Word, Fault>
 pub fn block_name(alloc: Global, tokens: &mut Tokens<'_>) -> Result<Word, Fault>
     ensures { Reads (spec.block_name tokens.old) result tokens.new }
 {
-    let Some(Token { lexeme: Lexeme::BlockName(text), at }) = tokens.token() else {
+    let Some(
+        Token {
+            lexeme: Lexeme::BlockName(text),
+            at,
+        },
+    ) = tokens.token()
+    else {
         return Err(tokens.refuse());
     };
     tokens.pass();
@@ -106,7 +126,13 @@ pub fn block_name(alloc: Global, tokens: &mut Tokens<'_>) -> Result<Word, Fault>
 fn target(alloc: Global, tokens: &mut Tokens<'_>) -> Result<Word, Fault>
     ensures { Reads (spec.target tokens.old) result tokens.new }
 {
-    let Some(Token { lexeme: Lexeme::BlockName(text) | Lexeme::String(text), at }) = tokens.token() else {
+    let Some(
+        Token {
+            lexeme: Lexeme::BlockName(text) | Lexeme::String(text),
+            at,
+        },
+    ) = tokens.token()
+    else {
         return Err(tokens.refuse());
     };
     tokens.pass();
@@ -118,7 +144,13 @@ fn target(alloc: Global, tokens: &mut Tokens<'_>) -> Result<Word, Fault>
 pub fn variable(alloc: Global, tokens: &mut Tokens<'_>) -> Result<RawVariable, Fault>
     ensures { Reads (spec.variable tokens.old) result tokens.new }
 {
-    let Some(Token { lexeme: Lexeme::Variable(v), at }) = tokens.token() else {
+    let Some(
+        Token {
+            lexeme: Lexeme::Variable(v),
+            at,
+        },
+    ) = tokens.token()
+    else {
         return Err(tokens.refuse());
     };
     tokens.pass();

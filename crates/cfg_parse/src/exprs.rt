@@ -142,8 +142,18 @@ fn is_equal(tokens: &mut Tokens<'_>) -> Result<bool, Fault>
     ensures { Reads (one spec.is_equal_in tokens.old) result tokens.new }
 {
     let is = match tokens.token() {
-        Some(Token { lexeme: Lexeme::Mark(Mark::Equal), .. }) => true,
-        Some(Token { lexeme: Lexeme::Mark(Mark::NotEqual), .. }) => false,
+        Some(
+            Token {
+                lexeme: Lexeme::Mark(Mark::Equal),
+                ..
+            },
+        ) => true,
+        Some(
+            Token {
+                lexeme: Lexeme::Mark(Mark::NotEqual),
+                ..
+            },
+        ) => false,
         _ => return Err(tokens.refuse()),
     };
     tokens.pass();

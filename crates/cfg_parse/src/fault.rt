@@ -4,7 +4,7 @@ use pv_values::Place;
 use std::alloc::AllocError;
 
 /// Why no value is read.
-#[derive(Clone, Copy, Debug, PartialEq, Eq)]
+#[derive(Clone, Copy)]
 pub enum Fault {
     /// No list of tokens that the grammar derives begins with the tokens up to the one that stands here.
     Syntax(Place),

@@ -81,7 +81,12 @@ fn setting(alloc: Global, tokens: &mut Tokens<'_>) -> Result<Setting, Fault>
     ensures { Reads (spec.setting_of tokens.old) result tokens.new }
 {
     match tokens.token() {
-        Some(Token { lexeme: Lexeme::Number(n), .. }) => {
+        Some(
+            Token {
+                lexeme: Lexeme::Number(n),
+                ..
+            },
+        ) => {
             let n = *n;
             if n < 0 {
                 return Err(tokens.refuse());
@@ -89,15 +94,30 @@ fn setting(alloc: Global, tokens: &mut Tokens<'_>) -> Result<Setting, Fault>
             tokens.pass();
             Ok(Setting::Number(n))
         }
-        Some(Token { lexeme: Lexeme::String(text), .. }) => {
+        Some(
+            Token {
+                lexeme: Lexeme::String(text),
+                ..
+            },
+        ) => {
             tokens.pass();
             Ok(Setting::String(text.copy(alloc)?))
         }
-        Some(Token { lexeme: Lexeme::Name(text), .. }) => {
+        Some(
+            Token {
+                lexeme: Lexeme::Name(text),
+                ..
+            },
+        ) => {
             tokens.pass();
             Ok(Setting::Name(text.copy(alloc)?))
         }
-        Some(Token { lexeme: Lexeme::Listen(listen), .. }) => {
+        Some(
+            Token {
+                lexeme: Lexeme::Listen(listen),
+                ..
+            },
+        ) => {
             tokens.pass();
             Ok(Setting::Listen(*listen))
         }
@@ -111,7 +131,12 @@ fn value(alloc: Global, tokens: &mut Tokens<'_>) -> Result<Setting, Fault>
     ensures { Reads (spec.value_of tokens.old) result tokens.new }
 {
     match tokens.token() {
-        Some(Token { lexeme: Lexeme::Number(n), .. }) => {
+        Some(
+            Token {
+                lexeme: Lexeme::Number(n),
+                ..
+            },
+        ) => {
             let n = *n;
             if n < 0 {
                 return Err(tokens.refuse());
@@ -119,7 +144,12 @@ fn value(alloc: Global, tokens: &mut Tokens<'_>) -> Result<Setting, Fault>
             tokens.pass();
             Ok(Setting::Number(n))
         }
-        Some(Token { lexeme: Lexeme::String(text), .. }) => {
+        Some(
+            Token {
+                lexeme: Lexeme::String(text),
+                ..
+            },
+        ) => {
             tokens.pass();
             Ok(Setting::String(text.copy(alloc)?))
         }
@@ -219,10 +249,12 @@ fn block(
 fn route_word(tokens: &mut Tokens<'_>) -> Result<Place, Fault>
     ensures { Reads (one spec.route_in tokens.old) result tokens.new }
 {
-    let Some(Token {
-        lexeme: Lexeme::Keyword(Keyword::Route),
-        at,
-    }) = tokens.token()
+    let Some(
+        Token {
+            lexeme: Lexeme::Keyword(Keyword::Route),
+            at,
+        },
+    ) = tokens.token()
     else {
         return Err(tokens.refuse());
     };

@@ -127,7 +127,12 @@ fn label_value(alloc: Global, tokens: &mut Tokens<'_>) -> Result<Val, Fault>
     ensures { Reads (one spec.label_in tokens.old) result tokens.new }
 {
     match tokens.token() {
-        Some(Token { lexeme: Lexeme::Number(n), .. }) => {
+        Some(
+            Token {
+                lexeme: Lexeme::Number(n),
+                ..
+            },
+        ) => {
             let n = *n;
             if n < 0 {
                 return Err(tokens.refuse());
@@ -135,7 +140,12 @@ fn label_value(alloc: Global, tokens: &mut Tokens<'_>) -> Result<Val, Fault>
             tokens.pass();
             Ok(Val::Int(n))
         }
-        Some(Token { lexeme: Lexeme::String(text), .. }) => {
+        Some(
+            Token {
+                lexeme: Lexeme::String(text),
+                ..
+            },
+        ) => {
             tokens.pass();
             Ok(Val::Text(text.copy(alloc)?))
         }
@@ -177,9 +187,9 @@ impl<F: Fn(Global, &mut Tokens<'_>, usize, bool) -> Result<RawStmt, Fault>> Arou
         ensures { Reads (spec.next_stmt (spec.stmt self.now.room) in_loop tokens.old) result tokens.new }
     {
         match tokens.first() {
-            Some(Lexeme::Mark(Mark::CloseCurly) | Lexeme::Keyword(Keyword::Case | Keyword::Default)) => {
-                Ok(None)
-            }
+            Some(
+                Lexeme::Mark(Mark::CloseCurly) | Lexeme::Keyword(Keyword::Case | Keyword::Default),
+            ) => { Ok(None) }
             _ => Ok(Some(self.inner(tokens, in_loop)?)),
         }
     }

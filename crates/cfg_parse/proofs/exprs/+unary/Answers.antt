@@ -1,4 +1,4 @@
-use Rattle.std.proofs.Common.{◌≡◌, ℕ, suc, ◌-◌, subst, arith}
+use Rattle.std.proofs.Common.{◌≡◌, suc, ◌-◌, subst, arith}
 use Rattle.cfg_parse.specs.Reader.{Reads}
 use Rattle.cfg_parse.specs.Exprs.{unary}
 use Rattle.cfg_parse.proofs.exprs.+unary.Goals as goal

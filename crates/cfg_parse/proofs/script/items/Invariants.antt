@@ -1,4 +1,4 @@
-use Rattle.std.proofs.Common.{◌≡◌, ◌-◌, []}
+use Rattle.std.proofs.Common.{◌≡◌, ◌-◌}
 use Rattle.cfg_parse.specs.Reader.{many_from}
 use Rattle.cfg_parse.specs.Script.{items, next_item}
 use Rattle.cfg_parse.proofs.script.items.Given as goal

@@ -1,11 +1,11 @@
-use Rattle.std.proofs.Common.{◌≡◌, ℕ, suc, ◌-◌, None, refl, subst, arith}
+use Rattle.std.proofs.Common.{◌≡◌, suc, ◌-◌, None, refl, subst, arith}
 use Rattle.cfg_parse.specs.Reader.{Reads}
 use Rattle.cfg_parse.specs.Stmts.{stmt}
 use Rattle.cfg_parse.proofs.stmts.+stmt.Goals as goal
 
 pub returns-then-room-eq0 : goal.returns-then-room-eq0
 unfolding stmt
-returns-then-room-eq0 t c =
+returns-then-room-eq0 t c _ =
     let none : 0 ≡ c.args.room = omega arith in
     subst (λ n. stmt n c.args.in_loop c.args.tokens.now ≡ None) none refl
 

@@ -1,4 +1,3 @@
-use Rattle.std.proofs.Common.{rules, ◌≡◌}
 use Rattle.cfg_parse.proofs.Turns.{stops}
 use Rattle.cfg_parse.proofs.exprs.Levels.terms.Goals as goal
 

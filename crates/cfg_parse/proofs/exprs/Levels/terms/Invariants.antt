@@ -1,6 +1,6 @@
 use Rattle.std.proofs.Common.{◌≡◌, ◌-◌, []}
 use Rattle.cfg_parse.specs.Reader.{many_from}
-use Rattle.cfg_parse.specs.Exprs.{unary, product, comparison, all_of, linked, joined, factor_operator, term_operator, is_and, is_or, more_factors, more_terms, more_of_all, more_of_any}
+use Rattle.cfg_parse.specs.Exprs.{unary, product, linked, term_operator, more_terms}
 use Rattle.cfg_parse.proofs.exprs.Levels.terms.Given as goal
 
 abbrev pub invariant-loop-turn : goal.invariant-loop-turn

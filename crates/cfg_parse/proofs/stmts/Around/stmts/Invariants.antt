@@ -1,7 +1,6 @@
 use Rattle.std.proofs.Common.{◌≡◌, ◌-◌}
-use Rattle.cfg_tree.specs.declared.token.Keyword.TheVariants.{Case}
-use Rattle.cfg_parse.specs.Reader.{many_from, behind_keyword}
-use Rattle.cfg_parse.specs.Stmts.{stmt, stmts, next_stmt, cases, case_of}
+use Rattle.cfg_parse.specs.Reader.{many_from}
+use Rattle.cfg_parse.specs.Stmts.{stmt, stmts, next_stmt}
 use Rattle.cfg_parse.proofs.stmts.Around.stmts.Given as goal
 
 abbrev pub invariant-loop-turn : goal.invariant-loop-turn
