@@ -170,12 +170,10 @@ fn limits(
         let open = nest.open;
         let taken = nested(alloc, before, nest, nest.most, behind)?;
         assert!(rt; read(alloc, taken.as_bytes()).is_ok(), "{open}");
-        let deeper = nested(alloc, before, nest, nest.most + 1, behind)?;
-        let from = before.len() + nest.refused.0;
-        let at = Place {
-            from,
-            to: from + nest.refused.1.len(),
-        };
+        let deeper = nested(alloc, before, nest, nest.most.saturating_add(1), behind)?;
+        let from = before.len().saturating_add(nest.refused.0);
+        let to = from.saturating_add(nest.refused.1.len());
+        let at = Place { from, to };
         let found = read(alloc, deeper.as_bytes()).err();
         assert_eq!(rt; found, Some(ScriptFault::Refused { kind: 3, at }), "{open}");
     }
