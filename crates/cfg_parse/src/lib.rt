@@ -7,6 +7,8 @@ mod fault;
 pub mod laws;
 mod script;
 mod stmts;
+#[cfg(test)]
+mod tests;
 mod tokens;
 mod tree;
 
