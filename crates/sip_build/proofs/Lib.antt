@@ -1,0 +1,3 @@
+pub mod Within
+pub mod Behind
+pub mod Found
