@@ -1,5 +1,3 @@
-mod Digits
-mod Addresses
 mod Lines
 mod Reading
 pub mod Once

@@ -8,10 +8,10 @@ use Rattle.std.proofs.lemmas.Bool.Decides.{Decides-eqb}
 use Rattle.outside_ports.specs.declared.port.Addr.{Addr}
 use Rattle.proxy_top.specs.declared.scenario.Line.{Line}
 use Rattle.proxy_top.specs.declared.scenario.Line.TheVariants.{In, Text, End, Skipped}
-use Rattle.proxy_top.specs.Numerals.{IsNumber, IsSocket}
-use Rattle.proxy_top.specs.Splits.{SplitsAt, Lacks}
+use Rattle.numerals.specs.Numerals.{IsNumber, IsSocket}
+use Rattle.numerals.specs.Splits.{SplitsAt, Lacks}
 use Rattle.proxy_top.specs.Scenario.{State, IsLine, Takes}
-use Rattle.proxy_top.proofs.Addresses.{decimal_lacks, only_split, not_split, split_one_way, same_socket}
+use Rattle.numerals.proofs.Addresses.{decimal_lacks, only_split, not_split, split_one_way, same_socket}
 
 -- the bytes do not begin with a prefix that was not stripped
 pub not_stripped : (line prefix : List ℕ) → pointwise eqb (take (length prefix) line) prefix ≡ false → (rest : List ℕ) → line ≢ prefix ++ rest

@@ -4,9 +4,9 @@ use Rattle.std.specs.Prelude.{Some, None}
 use Rattle.outside_ports.specs.declared.mem_port.Arrival.{Arrival}
 use Rattle.proxy_top.specs.declared.scenario.Line.{Line}
 use Rattle.proxy_top.specs.declared.scenario.Line.TheVariants.{In, Text, End, Skipped}
-use Rattle.proxy_top.specs.Splits.{Lacks}
+use Rattle.numerals.specs.Splits.{Lacks}
 use Rattle.proxy_top.specs.Scenario.{State, Takes, Fits, Reads, text_of, nothing_read, IsScenario, NothingFits, IsFirstWrong}
-use Rattle.proxy_top.proofs.Addresses.{split_one_way}
+use Rattle.numerals.proofs.Addresses.{split_one_way}
 use Rattle.proxy_top.proofs.Lines.{takes_alike}
 
 push_once : (xs ys : List Arrival) (a b : Arrival) → xs ++ a ∷ [] ≡ ys ++ b ∷ [] → (xs ≡ ys) × (a ≡ b)

@@ -4,10 +4,10 @@ use Rattle.std.specs.Prelude.{Some, None}
 use Rattle.std.proofs.lemmas.List.Elements.{All-nil}
 use Rattle.proxy_top.specs.declared.scenario.Line.{Line}
 use Rattle.proxy_top.specs.declared.scenario.Draft.{Draft}
-use Rattle.proxy_top.specs.Splits.{SplitsAt, Lacks}
+use Rattle.numerals.specs.Splits.{SplitsAt, Lacks}
 use Rattle.proxy_top.specs.Scenario.{State, IsLine, Takes, Fits, Reads, text_of, nothing_read, IsScenario, NothingFits, IsFirstWrong}
 use Rattle.proxy_top.specs.Draft.{IsDraft, shown}
-use Rattle.proxy_top.proofs.Addresses.{only_split, not_split}
+use Rattle.numerals.proofs.Addresses.{only_split, not_split}
 use Rattle.proxy_top.proofs.Lines.{takes_alike}
 
 -- all but the rest was read, line by line, and the number is that of the next line

@@ -1,5 +1,3 @@
-pub mod Numerals
-pub mod Splits
 pub mod Scenario
 pub mod Draft
 pub mod Reply

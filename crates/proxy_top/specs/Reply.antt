@@ -5,7 +5,7 @@ use Rattle.outside_ports.specs.declared.port.Addr.{Addr}
 use Rattle.sip_words.specs.declared.Span.{Span}
 use Rattle.sip_msg.specs.declared.plain.PlainRequest.{PlainRequest}
 use Rattle.proxy_top.specs.declared.script.AnswerAll.{AnswerAll}
-use Rattle.proxy_top.specs.Numerals.{dotted}
+use Rattle.numerals.specs.Numerals.{dotted}
 
 abbrev pub crlf : List ℕ
 crlf = 13 ∷ 10 ∷ []

@@ -3,8 +3,8 @@ use Rattle.std.specs.Prelude.{◌≡◌, ℕ, ◌+◌, ◌≤◌, ◌⊎◌, Lis
 use Rattle.outside_ports.specs.declared.mem_port.Arrival.{Arrival}
 use Rattle.proxy_top.specs.declared.scenario.Line.{Line}
 use Rattle.proxy_top.specs.declared.scenario.Line.TheVariants.{In, Text, End, Skipped}
-use Rattle.proxy_top.specs.Numerals.{IsNumber, IsSocket}
-use Rattle.proxy_top.specs.Splits.{Lacks}
+use Rattle.numerals.specs.Numerals.{IsNumber, IsSocket}
+use Rattle.numerals.specs.Splits.{Lacks}
 
 -- the bytes, without LF, are this line by itself
 abbrev pub IsLine : List ℕ → Line → Type 0

@@ -5,7 +5,7 @@ use Rattle.std.specs.Str.{bytes_eq}
 use Rattle.std.specs.Fmt.{decimal}
 use Rattle.hex.specs.Hex.{encode_lower}
 use Rattle.outside_ports.specs.declared.port.Addr.{Addr}
-use Rattle.proxy_top.specs.Numerals.{socket}
+use Rattle.numerals.specs.Numerals.{socket}
 
 abbrev pub is_crlf : ℕ → ℕ → Bool
 is_crlf a b = (a == 13) && (b == 10)

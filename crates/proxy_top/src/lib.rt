@@ -6,7 +6,6 @@
 #![tactic(auto)]
 
 mod command;
-mod numbers;
 mod reply;
 mod scenario;
 mod script;

@@ -4,7 +4,7 @@ ghost use Rattle.std.specs.Prelude.{◌≡◌, ◌≤◌, ◌++◌, length, drop
 ghost use Rattle.sip_msg.specs.PlainPlaces.{LiesIn};
 ghost use Rattle.proxy_top.specs.Reply.{crlf, part, status_line, via_line, to_line, reply};
 
-use crate::numbers::{push_ip, push_number};
+use numerals::{push_ip, push_number};
 use crate::script::AnswerAll;
 use outside_ports::Addr;
 use sip_msg::PlainRequest;

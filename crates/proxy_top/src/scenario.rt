@@ -7,7 +7,7 @@ ghost use Rattle.proxy_top.specs.declared.scenario.Line.{Line as LineForm};
 ghost use Rattle.proxy_top.specs.Scenario.{State, IsLine, Takes, IsScenario, IsFirstWrong, last_moment, nothing_read};
 ghost use Rattle.proxy_top.specs.Draft.{IsDraft, shown};
 
-use crate::numbers::{address, number, split_once};
+use numerals::{address, number, split_once};
 use outside_ports::{Addr, Arrival, Bytes};
 use std::alloc::{AllocError as NoMemory, Global};
 

@@ -6,7 +6,7 @@ ghost use Rattle.std.specs.Fmt.{decimal};
 ghost use Rattle.proxy_top.specs.declared.script.AnswerAll.{AnswerAll as Answer};
 ghost use Rattle.proxy_top.specs.Script.{is_reason_byte, IsReason, IsQuoted, IsForm, IsScript};
 
-use crate::numbers::number;
+use numerals::number;
 
 /// A script that answers each request: the code, 200 to 699, and the reason.
 #[derive(Clone, Copy)]
@@ -38,7 +38,7 @@ fn is_reason(bytes: &[u8]) -> bool
 }
 
 /// The code of an answer, from 200 to 699.
-#[tactic(auto, using(crate::proofs::Digits::same_number))]
+#[tactic(auto, using(numerals::proofs::Digits::same_number))]
 fn answer_code(word: &[u8]) -> Option<u16>
     ensures found { IfSome result (λ code. (200 ≤ code) × (code ≤ 699) × (word.now ≡ decimal code)) }
     ensures none { IfNone result ((code : ℕ) → 200 ≤ code → code ≤ 699 → word.now ≡ decimal code → ⊥) }

@@ -27,7 +27,7 @@ ghost use Rattle.proxy_top.specs.Endings.{
 };
 
 use crate::command::{Command, read_command};
-use crate::numbers::push_number;
+use numerals::push_number;
 use crate::scenario::{ScenarioFault, read_scenario};
 use crate::script::read_script;
 use crate::sim::run_sim;

@@ -5,7 +5,7 @@ ghost use Rattle.std.specs.List.{list_all};
 ghost use Rattle.proxy_top.specs.Trace.{is_printable, is_text_line, shown_piece, shown_datagram, out_text, drop_text, end_text};
 ghost use Rattle.proxy_top.specs.Pieces.{first_len, crlf_at};
 
-use crate::numbers::{push_address, push_number};
+use numerals::{push_address, push_number};
 use outside_ports::Addr;
 use std::alloc::{AllocError as NoMemory, Global};
 

@@ -12,3 +12,4 @@ pub mod Displays
 pub mod Addresses
 pub mod NameAddrLaw
 pub mod Laws
+pub mod Lies

@@ -7,3 +7,4 @@ pub mod Only
 pub mod Places
 pub mod PlainTakes
 pub mod PlainAgain
+pub mod Lies

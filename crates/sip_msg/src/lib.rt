@@ -4,12 +4,14 @@
 //!   the first of nine faults.
 //! - [`read_basis`] tells what an answer to a malformed request rests on, where there is an answer.
 //! - [`read_plain`] reads the plain request alone: an OPTIONS whose lines stand in one order.
+//! - [`laws`] has what follows of any message and basis that a datagram has.
 //!
 //! Nothing here takes memory.
 #![tactic(auto)]
 
 mod basis;
 mod fields;
+pub mod laws;
 mod message;
 mod plain;
 #[cfg(test)]

@@ -8,3 +8,4 @@ pub mod HeadAgain
 pub mod FieldTakes
 pub mod HeadTakes
 pub mod Parts
+pub mod Lies

@@ -6,3 +6,4 @@ pub mod ParamTurns
 pub mod Pieces
 pub mod Again
 pub mod Takes
+pub mod Lies

@@ -3,7 +3,7 @@ use Rattle.std.proofs.Common.{ℕ}
 use Rattle.proxy_top.specs.Scenario.{IsLine}
 use Rattle.proxy_top.specs.declared.scenario.Line.TheVariants.{End}
 use Rattle.proxy_top.proofs.Lines.{not_stripped}
-use Rattle.proxy_top.proofs.Addresses.{where_none}
+use Rattle.numerals.proofs.Addresses.{where_none}
 use Rattle.proxy_top.proofs.scenario.read_end.Goals as goal
 
 pub returns-in_err-strip_prefix-clause-none : goal.returns-in_err-strip_prefix-clause-none

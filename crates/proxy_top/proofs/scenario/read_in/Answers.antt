@@ -4,7 +4,7 @@ use Rattle.outside_ports.specs.declared.port.Addr.{Addr}
 use Rattle.proxy_top.specs.Scenario.{IsLine}
 use Rattle.proxy_top.specs.declared.scenario.Line.TheVariants.{In}
 use Rattle.proxy_top.proofs.Lines.{not_stripped, stripped, in_parts, in_unsplit}
-use Rattle.proxy_top.proofs.Addresses.{where_none}
+use Rattle.numerals.proofs.Addresses.{where_none}
 use Rattle.proxy_top.proofs.scenario.read_in.Goals as goal
 
 pub returns-in_err-strip_prefix-clause-none : goal.returns-in_err-strip_prefix-clause-none

@@ -1,10 +1,10 @@
-//! Numbers and addresses in decimal, as scenarios and traces write them.
+// Numbers and addresses in decimal, as scenarios, traces and messages write them.
 
 ghost use Rattle.std.specs.Prelude.{◌≡◌, ◌^◌, ◌<◌, ◌++◌, ℕ, IfSome, IfNone, OnOk};
 ghost use Rattle.std.specs.Fmt.{decimal};
 ghost use Rattle.outside_ports.specs.declared.port.Addr.{Addr as Address};
-ghost use Rattle.proxy_top.specs.Numerals.{begins_number, IsNumber, IsSocket, dotted, socket};
-ghost use Rattle.proxy_top.specs.Splits.{SplitsAt, Lacks};
+ghost use Rattle.numerals.specs.Numerals.{begins_number, IsNumber, IsSocket, dotted, socket};
+ghost use Rattle.numerals.specs.Splits.{SplitsAt, Lacks};
 
 use outside_ports::Addr;
 use std::alloc::{AllocError as NoMemory, Global};

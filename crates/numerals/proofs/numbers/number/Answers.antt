@@ -1,7 +1,7 @@
 -- A word that begins as a number is one exactly where it parses.
 use Rattle.std.proofs.Common.{sym}
-use Rattle.proxy_top.proofs.Digits.{parsed_found, parsed_none, not_begun, not_utf8}
-use Rattle.proxy_top.proofs.numbers.number.Goals as goal
+use Rattle.numerals.proofs.Digits.{parsed_found, parsed_none, not_begun, not_utf8}
+use Rattle.numerals.proofs.numbers.number.Goals as goal
 
 pub returns-then-not-begins_number-clause-none : goal.returns-then-not-begins_number-clause-none
 returns-then-not-begins_number-clause-none c = not_begun c.args.word.now (sym c.if-not-begins_number.ensures)

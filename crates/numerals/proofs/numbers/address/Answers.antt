@@ -1,8 +1,8 @@
 -- An address is split at its colon in one way.
 use Rattle.outside_ports.specs.declared.port.Addr.{Addr}
-use Rattle.proxy_top.specs.Numerals.{IsSocket}
-use Rattle.proxy_top.proofs.Addresses.{socket_parts, no_colon, where_none}
-use Rattle.proxy_top.proofs.numbers.address.Goals as goal
+use Rattle.numerals.specs.Numerals.{IsSocket}
+use Rattle.numerals.proofs.Addresses.{socket_parts, no_colon, where_none}
+use Rattle.numerals.proofs.numbers.address.Goals as goal
 
 pub returns-in_err-front-clause-none : goal.returns-in_err-front-clause-none
 returns-in_err-front-clause-none c =

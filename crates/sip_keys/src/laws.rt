@@ -1,0 +1,1 @@
+//! Laws of keys and branches, for the layers above.
