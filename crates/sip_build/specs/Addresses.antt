@@ -1,16 +1,9 @@
--- Addresses in decimal, and where a reply goes (RFC 3261, section 18.2.2; RFC 3581, section 4).
-use Rattle.std.specs.Prelude.{ℕ, ◌/◌, ◌%◌, List, ◌∷◌, ◌++◌, Option, Some, None}
-use Rattle.std.specs.Fmt.{decimal}
+-- Where a reply goes (RFC 3261, section 18.2.2; RFC 3581, section 4).
+use Rattle.std.specs.Prelude.{ℕ, Option, Some, None}
 use Rattle.outside_ports.specs.declared.port.Addr.{Addr}
 use Rattle.sip_fields.specs.declared.via.Via.{Via}
 use Rattle.sip_fields.specs.declared.via.Rport.{Rport}
 use Rattle.sip_fields.specs.declared.via.Rport.TheVariants.{Absent, Empty, Given}
-
--- four numbers with dots between them, the highest byte first
-abbrev pub dotted : ℕ → List ℕ
-dotted ip =
-    decimal (ip / 16777216 % 256) ++ (46 ∷ (decimal (ip / 65536 % 256)
-    ++ (46 ∷ (decimal (ip / 256 % 256) ++ (46 ∷ decimal (ip % 256))))))
 
 -- the port of a Via value
 abbrev pub port_or_5060 : Option ℕ → ℕ

@@ -14,7 +14,7 @@ use Rattle.msg_edits.specs.declared.parts.Edit.{Edit}
 use Rattle.msg_edits.specs.declared.parts.Edit.TheVariants.{Cut, Insert}
 use Rattle.msg_edits.specs.Edited.{edited}
 use Rattle.outside_ports.specs.declared.port.Addr.{Addr}
-use Rattle.sip_build.specs.Addresses.{dotted}
+use Rattle.numerals.specs.Numerals.{socket}
 use Rattle.sip_build.specs.Stamp.{stamp}
 use Rattle.sip_build.specs.Parts.{uri_of, place_of}
 
@@ -25,8 +25,7 @@ replaced at text = Cut at ∷ Insert at.from text ∷ []
 -- Via: SIP/2.0/UDP IP:PORT;branch=B
 abbrev pub via_line : Addr → List ℕ → List ℕ
 via_line listen branch =
-    codes "Via: SIP/2.0/UDP " ++ (dotted listen.ip ++ (codes ":" ++ (decimal listen.port
-    ++ (codes ";branch=" ++ (branch ++ codes "\r\n")))))
+    codes "Via: SIP/2.0/UDP " ++ (socket listen ++ (codes ";branch=" ++ (branch ++ codes "\r\n")))
 
 -- before the first Via field
 abbrev pub with_via : Message → List ℕ → List Edit

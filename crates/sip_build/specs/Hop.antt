@@ -7,7 +7,7 @@ use Rattle.sip_msg.specs.Fields.{first}
 use Rattle.sip_build.specs.Parts.{part, field_text, routes, uri_of}
 
 -- start line with the URI of the sent request; its top Via value; Max-Forwards; its Route fields; its From; a To; its Call-ID; CSeq with its number; Content-Length: 0; the empty line
-abbrev pub hop_request : List ℕ → List ℕ → Message → List ℕ → List ℕ
+unfoldable pub hop_request : List ℕ → List ℕ → Message → List ℕ → List ℕ
 hop_request method b m to =
     method ++ (codes " " ++ (part b (uri_of m.start) ++ (codes " SIP/2.0\r\n"
     ++ (codes "Via: " ++ (part b m.via.whole ++ (codes "\r\n"

@@ -12,7 +12,7 @@ use Rattle.msg_edits.specs.declared.parts.Edit.{Edit}
 use Rattle.msg_edits.specs.declared.parts.Edit.TheVariants.{Cut, Insert}
 use Rattle.msg_edits.specs.Edited.{edited}
 use Rattle.outside_ports.specs.declared.port.Addr.{Addr}
-use Rattle.sip_build.specs.Addresses.{dotted}
+use Rattle.numerals.specs.Numerals.{dotted}
 
 -- an old ;received= is cut
 abbrev pub without_received : Option Span → List Edit

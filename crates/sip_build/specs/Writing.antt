@@ -1,5 +1,5 @@
 -- What the private parts of the writing stand for.
-use Rattle.std.specs.Prelude.{◌≡◌, ℕ, ◌+◌, ◌-◌, ◌≤◌, Bool, List, [], ◌∷◌, ◌++◌, All, IfSome, length, map, nat_le, nat_lt, if◌then◌else◌}
+use Rattle.std.specs.Prelude.{◌≡◌, ℕ, ◌+◌, ◌-◌, ◌^◌, ◌<◌, ◌≤◌, Bool, List, [], ◌∷◌, ◌++◌, All, IfSome, IfOk, IfErr, OnOk, OnErr, Result, length, drop, map, min, nat_le, nat_lt, if◌then◌else◌}
 use Rattle.std.specs.List.{filter, flat_map}
 use Rattle.std.specs.Borrow.{Bor}
 use Rattle.sip_words.specs.declared.Span.{Span}
@@ -10,6 +10,7 @@ use Rattle.sip_scan.specs.declared.field.Kind.TheVariants as kind
 use Rattle.msg_edits.specs.declared.parts.Edit.{Edit}
 use Rattle.msg_edits.specs.declared.parts.Edit.TheVariants.{Cut, Insert}
 use Rattle.msg_edits.specs.declared.parts.Change.{Change}
+use Rattle.msg_edits.specs.declared.writing.TooLong.{TooLong}
 use Rattle.msg_edits.specs.Change.{edit_of}
 use Rattle.msg_edits.specs.Edited.{is_cut, inserted_at}
 use Rattle.sip_fields.specs.declared.name_addr.NameAddr.{NameAddr}
@@ -35,6 +36,15 @@ abbrev pub within : Span → Edit → Edit
 within at (Cut s) = Cut (span (s.from - at.from) (s.to - at.from))
 within at (Insert place text) = Insert (place - at.from) (if nat_le at.from place and nat_lt place at.to then text else [])
 
+-- a text is written to the front of a room, or doesn't fit
+pub record IsFitted (text old new : List ℕ) (result : Result ℕ TooLong) : Type 0 where
+  pub len : IfOk result (λ n. n ≡ length text)
+  pub fits : OnOk result (length text ≤ length old)
+  pub written : IfOk result (λ n. new ≡ text ++ drop n old)
+  pub too_long : IfErr result (λ e. e.len ≡ min (length text) (2 ^ 64 - 1))
+  pub no_room : OnErr result (length old < length text)
+  pub refused : OnErr result (new ≡ old)
+
 -- the edits of a stamp
 abbrev pub edits_of_stamp : Stamp → List Edit
 edits_of_stamp s = Cut s.received ∷ Insert s.rport_end s.port.bytes ∷ Insert s.value_end s.address.bytes ∷ []
@@ -50,7 +60,7 @@ fields_text j = flat_map (edited_field j.b.now (map edit_of j.changes)) (filter 
 abbrev pub pieces_text : List (Bor (List ℕ)) → List ℕ
 pieces_text ps = flat_map (λ (p : Bor (List ℕ)). p.now) ps
 
-abbrev pub joined_text : Joined → List ℕ
+unfoldable pub joined_text : Joined → List ℕ
 joined_text j = pieces_text j.front.now ++ (fields_text j ++ pieces_text j.back.now)
 
 -- a field and its value lie in the bytes
@@ -74,7 +84,7 @@ pub record RequestLies (r : Request) : Type 0 where
   pub branch : IfSome r.via.now.branch (IsWithin r.b.now)
 
 -- its answer
-abbrev pub answer_to : Request → Addr → ℕ → List ℕ → List ℕ
+unfoldable pub answer_to : Request → Addr → ℕ → List ℕ → List ℕ
 answer_to r source code reason = answer r.b.now r.fields.now r.via.now r.to source code reason
 
 abbrev pub to_text : ToField → List ℕ

@@ -2,7 +2,8 @@
 ghost use Rattle.std.specs.Prelude.{◌≡◌, ◌≤◌, ◌+◌, ◌++◌, ℕ, length};
 ghost use Rattle.std.specs.Fmt.{decimal};
 ghost use Rattle.arrayvec.specs.ArrayString.{array_string_len};
-ghost use Rattle.sip_build.specs.Addresses.{dotted, reply_address};
+ghost use Rattle.numerals.specs.Numerals.{dotted};
+ghost use Rattle.sip_build.specs.Addresses.{reply_address};
 
 use arrayvec::ArrayString;
 use itoa::Buffer;

@@ -3,10 +3,11 @@ ghost use Rattle.std.specs.Prelude.{◌≡◌, ◌≤◌, ◌<◌, ◌++◌, IfS
 ghost use Rattle.std.specs.Fmt.{decimal};
 ghost use Rattle.sip_scan.specs.declared.field.Kind.TheVariants as kind;
 ghost use Rattle.sip_msg.specs.Fields.{first};
-ghost use Rattle.sip_msg.specs.Places.{LiesIn, BasisLiesIn};
+ghost use Rattle.sip_msg.specs.Basis.{basis_of};
+ghost use Rattle.sip_msg.specs.Table.{Reads};
 ghost use Rattle.sip_msg.specs.Values.{name_addr_of};
 ghost use Rattle.sip_build.specs.Reply.{without_cookie, gives_tag, reply_tag, reply_to_field, reply_text, basis_reply_text};
-ghost use Rattle.sip_build.specs.Writing.{FieldsLie, EndsIn, RequestLies, answer_to, to_text};
+ghost use Rattle.sip_build.specs.Writing.{FieldsLie, EndsIn, RequestLies, IsFitted, answer_to, to_text};
 
 use crate::addresses::push_number;
 use crate::fields::{field_text, first};
@@ -42,7 +43,7 @@ struct ToField<'a> {
 /// Writes the answer with this code and reason to the request `m`, which came from `from`: the status line; all Via
 /// fields of the stamped request; From; To, with a tag where it has none and the code isn't 100; Call-ID; CSeq;
 /// `Content-Length: 0`; the empty line.
-#[tactic(auto, unfolding(crate::specs::Reply::reply_text))]
+#[tactic(auto, unfolding(crate::specs::Reply::reply_text, crate::specs::Writing::answer_to), using(crate::proofs::Readings::fields_lie, crate::proofs::Readings::branch_within, crate::proofs::Readings::to_ends))]
 pub fn reply(
     b: &[u8],
     m: &Message,
@@ -51,7 +52,7 @@ pub fn reply(
     reason: &[u8],
     out: &mut [u8],
 ) -> Result<usize, TooLong>
-    requires { LiesIn b.now m.now }
+    requires { Reads b.now m.now }
     ensures len { IfOk result (λ n. n ≡ length (reply_text b.now m.now from code reason.now)) }
     ensures fits { OnOk result (length (reply_text b.now m.now from code reason.now) ≤ length out.old) }
     ensures written { IfOk result (λ n. out.new ≡ reply_text b.now m.now from code reason.now ++ drop n out.old) }
@@ -71,7 +72,7 @@ pub fn reply(
 /// Writes the answer with this code and reason to a malformed request, which came from `from`: the same, with those
 /// of the fields that are present. Of From, To, Call-ID and CSeq the first field of each is written. To is given a
 /// tag only where it reads and has none.
-#[tactic(auto, unfolding(crate::specs::Reply::basis_reply_text))]
+#[tactic(auto, unfolding(crate::specs::Reply::basis_reply_text, crate::specs::Writing::answer_to), using(crate::proofs::Readings::basis_fields_lie, crate::proofs::Readings::basis_branch_within))]
 pub fn basis_reply(
     b: &[u8],
     basis: &Basis,
@@ -80,7 +81,7 @@ pub fn basis_reply(
     reason: &[u8],
     out: &mut [u8],
 ) -> Result<usize, TooLong>
-    requires { BasisLiesIn (take 8192 b.now) basis.now }
+    requires { basis_of b.now ≡ Some basis.now }
     ensures len { IfOk result (λ n. n ≡ length (basis_reply_text b.now basis.now from code reason.now)) }
     ensures fits { OnOk result (length (basis_reply_text b.now basis.now from code reason.now) ≤ length out.old) }
     ensures written { IfOk result (λ n. out.new ≡ basis_reply_text b.now basis.now from code reason.now ++ drop n out.old) }
@@ -101,12 +102,7 @@ impl<'a> Request<'a> {
     /// Writes the answer.
     fn answer(&self, from: Addr, code: u16, reason: &[u8], out: &mut [u8]) -> Result<usize, TooLong>
         requires { RequestLies self.now }
-        ensures len { IfOk result (λ n. n ≡ length (answer_to self.now from code reason.now)) }
-        ensures fits { OnOk result (length (answer_to self.now from code reason.now) ≤ length out.old) }
-        ensures written { IfOk result (λ n. out.new ≡ answer_to self.now from code reason.now ++ drop n out.old) }
-        ensures too_long { IfErr result (λ e. e.len ≡ min (length (answer_to self.now from code reason.now)) usize.MAX) }
-        ensures no_room { OnErr result (length out.old < length (answer_to self.now from code reason.now)) }
-        ensures refused { OnErr result (out.new ≡ out.old) }
+        ensures { IsFitted (answer_to self.now from code reason.now) out.old out.new result }
     {
         let status = status_front(code);
         let stamp = Stamp::of(self.via, from);

@@ -6,8 +6,8 @@ ghost use Rattle.sip_scan.specs.declared.field.Kind.TheVariants as kind;
 ghost use Rattle.msg_edits.specs.declared.parts.Edit.TheVariants as edit;
 ghost use Rattle.msg_edits.specs.Change.{edit_of};
 ghost use Rattle.sip_msg.specs.Fields.{first};
-ghost use Rattle.sip_msg.specs.Places.{LiesIn};
-ghost use Rattle.sip_build.specs.Addresses.{dotted};
+ghost use Rattle.sip_msg.specs.Table.{Reads};
+ghost use Rattle.numerals.specs.Numerals.{socket};
 ghost use Rattle.sip_build.specs.Parts.{place_of};
 ghost use Rattle.sip_build.specs.Forwarded.{number_in, one_less, with_hops, forwarded_text};
 ghost use Rattle.sip_build.specs.Writing.{SameEdits, FieldsLie, edits_of_hops};
@@ -27,6 +27,7 @@ use sip_words::words::{lws_end, run_end};
 /// `uri`; a line Via with the address `listen` and the branch `branch` is put before its first Via field; the number
 /// of Max-Forwards is lowered by one, or a field Max-Forwards with `absent_hops` is put before the empty line where it
 /// has none; and the edits are made. Bytes behind the end of the message are left out.
+#[tactic(auto, using(crate::proofs::Readings::fields_lie, crate::proofs::Readings::end_within, crate::proofs::Readings::line_low, crate::proofs::Readings::body_low))]
 pub fn forwarded(
     b: &[u8],
     m: &Message,
@@ -38,7 +39,7 @@ pub fn forwarded(
     absent_hops: u8,
     out: &mut [u8],
 ) -> Result<usize, TooLong>
-    requires lies { LiesIn b.now m.now }
+    requires reading { Reads b.now m.now }
     requires hops { IfSome m.now.max_forwards (λ hops. 0 < hops) }
     ensures len { IfOk result (λ n. n ≡ length (forwarded_text b.now m.now from edits.now uri.now listen branch.now absent_hops)) }
     ensures fits { OnOk result (length (forwarded_text b.now m.now from edits.now uri.now listen branch.now absent_hops) ≤ length out.old) }
@@ -50,13 +51,12 @@ pub fn forwarded(
     let stamp = Stamp::of(&m.via, from);
     let via = via_front(listen);
     let hops = Hops::of(b, m, absent_hops);
-    let [received, port, address] = stamp.changes();
     let uri_at = uri_of(m.start);
     let place = via_place(b, m);
     let changes = [
-        received,
-        port,
-        address,
+        stamp.received(),
+        stamp.port(),
+        stamp.address(),
         Change::Cut(uri_at),
         insert(uri_at.from, uri),
         insert(place, via.as_str().as_bytes()),
@@ -76,7 +76,8 @@ fn insert(place: usize, text: &[u8]) -> Change<'_>
 
 /// Where the line Via goes: before the first Via field.
 fn via_place(b: &[u8], m: &Message) -> usize
-    requires lies { LiesIn b.now m.now }
+    requires fields { FieldsLie b.now m.now.head.fields.items }
+    requires line { m.now.head.start.to + 4 ≤ length b.now }
     ensures { result ≡ place_of (first kind.Via m.now.head.fields.items) (m.now.head.start.to + 2) }
 {
     match first(b, &m.head.fields, Kind::Via) {
@@ -87,7 +88,7 @@ fn via_place(b: &[u8], m: &Message) -> usize
 
 /// The line Via up to the branch.
 fn via_front(listen: Addr) -> ArrayString<46>
-    ensures { result.bytes ≡ codes "Via: SIP/2.0/UDP " ++ (dotted listen.ip ++ (codes ":" ++ (decimal listen.port ++ codes ";branch="))) }
+    ensures { result.bytes ≡ codes "Via: SIP/2.0/UDP " ++ (socket listen ++ codes ";branch=") }
 {
     let mut text = ArrayString::new();
     text.push_str("Via: SIP/2.0/UDP ");
@@ -108,7 +109,8 @@ struct Hops {
 impl Hops {
     /// One less, where the field stands; else a field before the empty line.
     fn of(b: &[u8], m: &Message, absent_hops: u8) -> Hops
-        requires lies { LiesIn b.now m.now }
+        requires fields { FieldsLie b.now m.now.head.fields.items }
+        requires body { 2 ≤ m.now.head.body }
         requires hops { IfSome m.now.max_forwards (λ hops. 0 < hops) }
         ensures { SameEdits (edits_of_hops result) (with_hops b.now (first kind.MaxForwards m.now.head.fields.items) m.now.max_forwards m.now.head.body absent_hops) }
     {

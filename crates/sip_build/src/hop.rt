@@ -1,8 +1,9 @@
 //! The requests that the proxy makes for a request that it sent.
 ghost use Rattle.std.specs.Prelude.{◌≡◌, ◌≤◌, ◌<◌, ◌+◌, ◌++◌, codes, drop, length, min, IfOk, IfErr, OnOk, OnErr};
 ghost use Rattle.std.specs.Fmt.{decimal};
-ghost use Rattle.sip_msg.specs.Places.{LiesIn};
+ghost use Rattle.sip_msg.specs.Table.{Reads};
 ghost use Rattle.sip_build.specs.Hop.{hop_request, ack_text, cancel_text};
+ghost use Rattle.sip_build.specs.Writing.{IsFitted};
 
 use crate::fields::{field_text, uri_of};
 use crate::joined::{Joined, Taken};
@@ -17,7 +18,7 @@ const UNCHANGED: Change<'static> = Change::Cut(Span { from: 0, to: 0 });
 
 /// Writes the ACK for the answer `am` to the request `m`, which the proxy sent (RFC 3261, section 17.1.1.3): its URI,
 /// its top Via value, its Route fields, its From and Call-ID, the number of its CSeq, and To of the answer.
-#[tactic(auto, unfolding(crate::specs::Hop::ack_text))]
+#[tactic(auto, unfolding(crate::specs::Hop::ack_text), using(crate::proofs::Readings::fields_lie))]
 pub fn ack(
     b: &[u8],
     m: &Message,
@@ -25,8 +26,8 @@ pub fn ack(
     am: &Message,
     out: &mut [u8],
 ) -> Result<usize, TooLong>
-    requires request { LiesIn b.now m.now }
-    requires answer { LiesIn answer.now am.now }
+    requires request { Reads b.now m.now }
+    requires answer { Reads answer.now am.now }
     ensures len { IfOk result (λ n. n ≡ length (ack_text b.now m.now answer.now am.now)) }
     ensures fits { OnOk result (length (ack_text b.now m.now answer.now am.now) ≤ length out.old) }
     ensures written { IfOk result (λ n. out.new ≡ ack_text b.now m.now answer.now am.now ++ drop n out.old) }
@@ -40,9 +41,9 @@ pub fn ack(
 
 /// Writes the CANCEL of the request `m`, which the proxy sent (RFC 3261, section 9.1): the same, with To of the
 /// request.
-#[tactic(auto, unfolding(crate::specs::Hop::cancel_text))]
+#[tactic(auto, unfolding(crate::specs::Hop::cancel_text), using(crate::proofs::Readings::fields_lie))]
 pub fn cancel(b: &[u8], m: &Message, out: &mut [u8]) -> Result<usize, TooLong>
-    requires { LiesIn b.now m.now }
+    requires { Reads b.now m.now }
     ensures len { IfOk result (λ n. n ≡ length (cancel_text b.now m.now)) }
     ensures fits { OnOk result (length (cancel_text b.now m.now) ≤ length out.old) }
     ensures written { IfOk result (λ n. out.new ≡ cancel_text b.now m.now ++ drop n out.old) }
@@ -54,6 +55,7 @@ pub fn cancel(b: &[u8], m: &Message, out: &mut [u8]) -> Result<usize, TooLong>
     hop_request("CANCEL", b, m, to, out)
 }
 
+#[tactic(auto, using(crate::proofs::Readings::fields_lie, crate::proofs::Readings::via_within, crate::proofs::Readings::uri_within))]
 /// Writes the request with this method that goes the way of the sent request `m`.
 fn hop_request(
     method: &str,
@@ -62,16 +64,12 @@ fn hop_request(
     to: &[u8],
     out: &mut [u8],
 ) -> Result<usize, TooLong>
-    requires lies { LiesIn b.now m.now }
+    requires reading { Reads b.now m.now }
     requires short { length method.now ≤ 6 }
-    ensures len { IfOk result (λ n. n ≡ length (hop_request method.now b.now m.now to.now)) }
-    ensures fits { OnOk result (length (hop_request method.now b.now m.now to.now) ≤ length out.old) }
-    ensures written { IfOk result (λ n. out.new ≡ hop_request method.now b.now m.now to.now ++ drop n out.old) }
-    ensures too_long { IfErr result (λ e. e.len ≡ min (length (hop_request method.now b.now m.now to.now)) usize.MAX) }
-    ensures no_room { OnErr result (length out.old < length (hop_request method.now b.now m.now to.now)) }
-    ensures refused { OnErr result (out.new ≡ out.old) }
+    ensures { IsFitted (hop_request method.now b.now m.now to.now) out.old out.new result }
 {
     let uri = uri_of(m.start);
+    let fields = m.head.fields.as_slice();
     let cseq = cseq_line(m.cseq.number, method);
     let joined = Joined {
         front: &[
@@ -83,13 +81,13 @@ fn hop_request(
             b"\r\nMax-Forwards: 70\r\n",
         ],
         b,
-        fields: &m.head.fields,
+        fields,
         taken: Taken::Routes,
         changes: [UNCHANGED, UNCHANGED, UNCHANGED],
         back: &[
-            field_text(b, &m.head.fields, Kind::From),
+            field_text(b, fields, Kind::From),
             to,
-            field_text(b, &m.head.fields, Kind::CallId),
+            field_text(b, fields, Kind::CallId),
             cseq.as_str().as_bytes(),
             b"Content-Length: 0\r\n\r\n",
         ],

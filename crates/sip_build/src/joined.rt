@@ -4,7 +4,7 @@ ghost use Rattle.sip_words.specs.Spans.{IsWithin};
 ghost use Rattle.msg_edits.specs.Change.{edit_of};
 ghost use Rattle.msg_edits.specs.Edited.{edited, edited_from};
 ghost use Rattle.msg_edits.specs.Writing.{IsWritten};
-ghost use Rattle.sip_build.specs.Writing.{within, is_taken, fields_text, pieces_text, joined_text, FieldsLie};
+ghost use Rattle.sip_build.specs.Writing.{within, is_taken, fields_text, pieces_text, joined_text, FieldsLie, IsFitted};
 
 use crate::fields::{is_of, is_route};
 use msg_edits::{Change, Edits, TooLong, apply_after};
@@ -34,12 +34,7 @@ impl Joined<'_, '_, '_, '_, '_> {
     /// Writes the text to the front of `out`, and says how long it is. Where it doesn't fit, `out` stays as it was.
     pub fn fit(&self, out: &mut [u8]) -> Result<usize, TooLong>
         requires { FieldsLie self.now.b.now self.now.fields.now }
-        ensures len { IfOk result (λ n. n ≡ length (joined_text self.now)) }
-        ensures fits { OnOk result (length (joined_text self.now) ≤ length out.old) }
-        ensures written { IfOk result (λ n. out.new ≡ joined_text self.now ++ drop n out.old) }
-        ensures too_long { IfErr result (λ e. e.len ≡ min (length (joined_text self.now)) usize.MAX) }
-        ensures no_room { OnErr result (length out.old < length (joined_text self.now)) }
-        ensures refused { OnErr result (out.new ≡ out.old) }
+        ensures { IsFitted (joined_text self.now) out.old out.new result }
     {
         let len = self.write(&mut []);
         if len > out.len() {

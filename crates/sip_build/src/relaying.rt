@@ -1,7 +1,7 @@
 //! The reply that goes back (RFC 3261, section 16.7).
 ghost use Rattle.std.specs.Prelude.{◌≡◌, ◌≤◌, ◌<◌, [], ◌∷◌, ◌++◌, drop, length, min, IfOk, IfErr, OnOk, OnErr};
 ghost use Rattle.msg_edits.specs.declared.parts.Edit.TheVariants as edit;
-ghost use Rattle.sip_msg.specs.Places.{LiesIn};
+ghost use Rattle.sip_msg.specs.Table.{Reads};
 ghost use Rattle.sip_build.specs.Relayed.{without_top_via, relayed_text};
 ghost use Rattle.sip_build.specs.Writing.{SameEdits, FieldsLie};
 
@@ -12,8 +12,9 @@ use sip_scan::Kind;
 
 /// Writes the response `m` without its top Via value, and with the edits: the whole field is removed where it is its
 /// only value, else the value, its comma and the LWS after it. Bytes behind the end of the message are left out.
+#[tactic(auto, using(crate::proofs::Readings::fields_lie, crate::proofs::Readings::end_within))]
 pub fn relayed_reply(b: &[u8], m: &Message, edits: &Edits, out: &mut [u8]) -> Result<usize, TooLong>
-    requires { LiesIn b.now m.now }
+    requires { Reads b.now m.now }
     ensures len { IfOk result (λ n. n ≡ length (relayed_text b.now m.now edits.now)) }
     ensures fits { OnOk result (length (relayed_text b.now m.now edits.now) ≤ length out.old) }
     ensures written { IfOk result (λ n. out.new ≡ relayed_text b.now m.now edits.now ++ drop n out.old) }

@@ -2,7 +2,6 @@
 ghost use Rattle.std.specs.Prelude.{◌≡◌, map, [], ◌∷◌};
 ghost use Rattle.msg_edits.specs.declared.parts.Edit.TheVariants as edit;
 ghost use Rattle.msg_edits.specs.Change.{edit_of};
-ghost use Rattle.sip_build.specs.Addresses.{dotted};
 ghost use Rattle.sip_build.specs.Stamp.{without_received, with_port, is_source, wants_received, with_received, stamp};
 ghost use Rattle.sip_build.specs.Writing.{SameEdits, edits_of_stamp};
 
@@ -42,21 +41,38 @@ impl Stamp {
         }
     }
 
-    /// The changes, in their order.
+    /// The cut of the old parameter `received`.
+    pub fn received(&self) -> Change<'_>
+        ensures { edit_of result ≡ edit.Cut self.now.received }
+    {
+        Change::Cut(self.received)
+    }
+
+    /// The source port behind `rport`.
+    pub fn port(&self) -> Change<'_>
+        ensures { edit_of result ≡ edit.Insert self.now.rport_end self.now.port.bytes }
+    {
+        Change::Insert {
+            place: self.rport_end,
+            text: self.port.as_str().as_bytes(),
+        }
+    }
+
+    /// The source address at the end of the value.
+    pub fn address(&self) -> Change<'_>
+        ensures { edit_of result ≡ edit.Insert self.now.value_end self.now.address.bytes }
+    {
+        Change::Insert {
+            place: self.value_end,
+            text: self.address.as_str().as_bytes(),
+        }
+    }
+
+    /// All changes, in their order.
     pub fn changes(&self) -> [Change<'_>; 3]
         ensures { map edit_of result ≡ edits_of_stamp self.now }
     {
-        [
-            Change::Cut(self.received),
-            Change::Insert {
-                place: self.rport_end,
-                text: self.port.as_str().as_bytes(),
-            },
-            Change::Insert {
-                place: self.value_end,
-                text: self.address.as_str().as_bytes(),
-            },
-        ]
+        [self.received(), self.port(), self.address()]
     }
 }
 

@@ -5,6 +5,7 @@ use Rattle.sip_build.proofs.Behind.{nothing_written}
 use Rattle.sip_build.proofs.joined.Joined.write.Goals as goal
 
 pub returns : goal.returns
+unfolding joined_text
 returns c =
     let j = c.args.self.now in
     let room = c.args.out.now in
