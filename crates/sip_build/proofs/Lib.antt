@@ -5,3 +5,5 @@ pub mod Readings
 pub mod SameTexts
 pub mod Joining
 pub mod Moved
+pub mod ReplyLaw
+pub mod OwnVia

@@ -7,3 +7,4 @@ pub mod Relayed
 pub mod Hop
 pub mod WithField
 pub mod Writing
+pub mod Laws

@@ -18,6 +18,7 @@ mod fields;
 mod forwarding;
 mod hop;
 mod joined;
+pub mod laws;
 mod relaying;
 mod stamp;
 #[cfg(test)]
