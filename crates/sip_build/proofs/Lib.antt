@@ -7,3 +7,5 @@ pub mod Joining
 pub mod Moved
 pub mod ReplyLaw
 pub mod OwnVia
+pub mod PutIn
+pub mod LineLaw

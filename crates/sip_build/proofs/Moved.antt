@@ -1,6 +1,6 @@
 -- Bytes that are put into a text in its room.
-use Rattle.std.proofs.Common.{◌≡◌, ℕ, ◌+◌, ◌-◌, ◌≤◌, List, ◌++◌, length, take, drop, refl, sym, ap, ◌∙◌, arith, append_assoc, length-take, Some}
-use Rattle.std.proofs.lemmas.List.{take_at, drop_at, take-append-le, take-take, drop-take, drop-drop}
+use Rattle.std.proofs.Common.{◌≡◌, ℕ, ◌+◌, ◌-◌, ◌≤◌, List, ◌++◌, length, take, drop, ap, ◌∙◌, arith, append_assoc, length-take, Some}
+use Rattle.std.proofs.lemmas.List.{drop_at, take-append-le, take-take, drop-take, drop-drop}
 use Rattle.sip_build.specs.WithField.{empty_line, with_field}
 
 grouped : (a b c d : List ℕ) → a ++ (b ++ (c ++ d)) ≡ (a ++ (b ++ c)) ++ d

@@ -1,28 +1,27 @@
 -- The proxy's own Via value, read back.
-use Rattle.std.proofs.Common.{◌≡◌, ℕ, ◌+◌, ◌*◌, ◌/◌, ◌%◌, ◌^◌, ◌<◌, ◌≤◌, ◌==◌, true, false, inl, inr, List, [], ◌∷◌, ◌++◌, length, drop, refl, sym, ap, subst, ◌∙◌, arith, append_assoc, Some, None, length-append}
-use Rattle.std.specs.Prelude.{codes, IfSome}
+use Rattle.std.proofs.Common.{◌≡◌, ℕ, ◌+◌, ◌/◌, ◌%◌, ◌^◌, ◌<◌, ◌≤◌, ◌==◌, true, false, inl, inr, List, [], ◌∷◌, ◌++◌, length, drop, refl, sym, ap, subst, ◌∙◌, arith, append_assoc, Some, None, length-append}
+use Rattle.std.specs.Prelude.{codes}
 use Rattle.std.specs.Fmt.{decimal}
-use Rattle.std.specs.Int.{w32, from_be_bytes, to_be_bytes}
+use Rattle.std.specs.Int.{w32, from_be_bytes}
 use Rattle.std.specs.List.{list_all, AllByRecursion}
 use Rattle.std.specs.Str.Parse.{digits_value}
 use Rattle.std.proofs.lemmas.Fmt.{decimal_is_IsNumeral, decimal_by_steps, length-decimal-le, decimal_nonempty}
 use Rattle.std.proofs.lemmas.Bool.{cases_eq, both_ways, ne_eqb}
 use Rattle.std.proofs.lemmas.List.{append-nil}
 use Rattle.std.proofs.lemmas.Grind.{common_steps}
-use Rattle.sip_words.specs.declared.bytes.Class.{Class}
 use Rattle.sip_words.specs.declared.bytes.Class.TheVariants.{Token, Value, Digit}
 use Rattle.sip_words.specs.Bytes.{has}
-use Rattle.sip_words.specs.Grammar.{Space, MarkTree, IsWord, Bare, ParamTree}
+use Rattle.sip_words.specs.Grammar.{Space, IsWord, Bare}
 use Rattle.sip_fields.specs.declared.host.Host.TheVariants.{V4}
 use Rattle.sip_fields.specs.declared.via.Via.{Via}
 use Rattle.sip_fields.specs.declared.via.Rport.TheVariants.{Absent}
 use Rattle.sip_words.specs.Spans.{span}
-use Rattle.sip_fields.specs.Parts.{HostTree, Numbers, IsOctet, AreOctets, host, Last}
+use Rattle.sip_fields.specs.Parts.{Numbers, IsOctet, host, Last}
 use Rattle.sip_fields.specs.Via.{via_at}
 use Rattle.sip_fields.specs.ViaGrammar.{ViaTree, IsVia, via, via_place}
 use Rattle.sip_fields.proofs.ViaAgain.{via_again}
 use Rattle.outside_ports.specs.declared.port.Addr.{Addr}
-use Rattle.numerals.specs.Numerals.{dotted, socket}
+use Rattle.numerals.specs.Numerals.{dotted}
 use Rattle.sip_build.specs.Laws.{IsOwn, own_value, own_via}
 
 digit : (d : ℕ) → d < 10 → has Digit (48 + d) ≡ true

@@ -1,15 +1,16 @@
 -- Where the parts of a reading lie.
-use Rattle.std.proofs.Common.{◌≡◌, ℕ, ◌+◌, ◌-◌, ◌≤◌, List, [], ◌∷◌, length, take, refl, sym, ap, ◌∙◌, subst, arith, Some, None, length-take}
-use Rattle.std.specs.Prelude.{All, Option, IfSome, min}
-use Rattle.std.specs.List.{AllByRecursion}
+use Rattle.std.proofs.Common.{◌≡◌, ℕ, ◌+◌, ◌-◌, ◌<◌, ◌≤◌, Bool, inl, inr, List, [], ◌∷◌, length, take, refl, subst, arith, Some, None, length-take}
+use Rattle.std.specs.Prelude.{All, Option, IfSome}
+use Rattle.std.specs.List.{find, AllByRecursion}
 use Rattle.std.proofs.lemmas.List.Elements.{recursion_from_All, All-from_recursion}
+use Rattle.std.proofs.lemmas.Bool.{cases_Bool}
 use Rattle.std.proofs.lemmas.Option.{same_Some, none-some}
 use Rattle.sip_words.specs.declared.Span.{Span}
 use Rattle.sip_words.specs.Spans.{IsBetween, IsWithin}
 use Rattle.sip_words.proofs.Steps.{bind_some}
 use Rattle.sip_fields.specs.declared.name_addr.NameAddr.{NameAddr}
-use Rattle.sip_fields.specs.Via.{via_at, IsViaBetween}
-use Rattle.sip_fields.specs.NameAddr.{name_addr_at, IsNameAddrBetween}
+use Rattle.sip_fields.specs.Via.{IsViaBetween}
+use Rattle.sip_fields.specs.NameAddr.{IsNameAddrBetween}
 use Rattle.sip_scan.specs.declared.field.HeaderSpan.{HeaderSpan}
 use Rattle.sip_scan.specs.declared.field.Kind.{Kind}
 use Rattle.sip_scan.specs.declared.field.Kind.TheVariants as kind
@@ -22,11 +23,13 @@ use Rattle.std.specs.Result.{result_ok}
 use Rattle.sip_scan.specs.Lines.{start_line}
 use Rattle.sip_scan.specs.Head.{scanned}
 use Rattle.sip_msg.specs.Basis.{basis_in, basis_of, answerable_at}
-use Rattle.sip_msg.specs.Fields.{first}
-use Rattle.sip_msg.specs.Places.{InFirst, LiesIn}
+use Rattle.sip_scan.specs.Head.{LieFrom}
+use Rattle.sip_msg.specs.Fields.{is_of, first}
+use Rattle.sip_msg.proofs.Firsts.{found_is}
+use Rattle.sip_msg.specs.Places.{InFirst}
 use Rattle.sip_msg.specs.Start.{IsStartBetween}
 use Rattle.sip_msg.specs.Table.{Reads}
-use Rattle.sip_msg.specs.Values.{via_of, name_addr_of}
+use Rattle.sip_msg.specs.Values.{via_of}
 use Rattle.sip_msg.proofs.Lies.{lies, basis_lies}
 use Rattle.sip_build.specs.Parts.{uri_of}
 use Rattle.sip_build.specs.Writing.{FieldLies, FieldsLie, EndsIn}
@@ -125,3 +128,51 @@ basis_via_between b x e =
 
 pub basis_branch_within : (b : List ℕ) (x : Basis) → basis_of b ≡ Some x → IfSome x.via.branch (IsWithin b)
 basis_branch_within b x e = let v = basis_via_between b x e in if_some (IsBetween v.0.value.from v.0.value.to) (IsWithin b) (λ s h. within b v.0 s v.1 h) x.via.branch v.2.branch
+
+-- the fields lie between the start line and the empty line
+lie_order : (b : List ℕ) (fields : List HeaderSpan) (i j : ℕ) → AllByRecursion (FieldLies b) fields → LieFrom i fields j → i ≤ j
+lie_order b [] i j a h = omega arith
+lie_order b (f ∷ fields) i j a h = let rest = lie_order b fields f.whole.to j a.1 h.1 in omega (arith, h.0, a.0.low, a.0.value, a.0.high)
+
+found_between : (b : List ℕ) (p : HeaderSpan → Bool) (fields : List HeaderSpan) (i j : ℕ) (f : HeaderSpan) → AllByRecursion (FieldLies b) fields → LieFrom i fields j → find p fields ≡ Some f → (i ≤ f.whole.from) × (f.whole.to ≤ j)
+found_between b p [] i j f a h e = absurd (none-some f e)
+found_between b p (g ∷ fields) i j f a h e = elim (cases_Bool (p g)) [
+  | inl t ↦ let here : g ≡ f = same_Some g f (rw t at e) in let rest = lie_order b fields g.whole.to j a.1 h.1 in let P : HeaderSpan → Type 0 = λ x. (i ≤ x.whole.from) × (x.whole.to ≤ j) in subst P here (omega (arith, h.0), omega arith)
+  | inr n ↦ let later = found_between b p fields g.whole.to j f a.1 h.1 (rw n at e) in (omega (arith, later.0, h.0, a.0.low, a.0.value, a.0.high), later.1)
+]
+
+-- the first Via field, where it stands, and where its first value lies
+pub record ViaStands (b : List ℕ) (m : Message) (f : HeaderSpan) : Type 0 where
+  pub first : first kind.Via m.head.fields.items ≡ Some f
+  pub low : m.head.start.to + 2 ≤ f.whole.from
+  pub colon : f.whole.from < f.value.from
+  pub value : f.value.to + 2 ≡ f.whole.to
+  pub high : f.whole.to + 2 ≤ m.end
+  pub between : IsViaBetween f.value.from f.value.to m.via
+
+pub via_stands : (b : List ℕ) (m : Message) → Reads b m → (f : HeaderSpan) × ViaStands b m f
+via_stands b m r =
+    let fields = m.head.fields.items in
+    let l = lies b m r in
+    let f = via_field b fields m r.parts.via in
+    let is = found_is b kind.Via fields f.0 l.head.each f.1 in
+    let where_it_is = found_between b (is_of kind.Via) fields (m.head.start.to + 2) (m.head.body - 2) f.0 (recursion_from_All (FieldLies b) fields (fields_lie b m r)) l.head.fields f.1 in
+    let low = l.head.body_low in
+    let end = l.parts.end_low in (
+      f.0,
+      record {
+        first = f.1;
+        low = where_it_is.0;
+        colon = omega (arith, is.name_first, is.name, is.colon);
+        value = is.end;
+        high = omega (arith, where_it_is.1);
+        between = at_first kind.Via fields (λ i j. IsViaBetween i j m.via) f.0 f.1 l.parts.via;
+      },
+    )
+
+uri_low : (line : Span) (start : Start) → line.from ≤ line.to → IsStartBetween line.from line.to start → (uri_of start).from ≤ line.to
+uri_low line (Request method uri) order h = omega (arith, h.1.order, h.1.high)
+uri_low line (Status code reason) order h = omega (arith, h.order, h.high)
+
+pub uri_end : (b : List ℕ) (m : Message) → Reads b m → (uri_of m.start).from ≤ m.head.start.to
+uri_end b m r = let l = lies b m r in uri_low m.head.start m.start l.head.start.order l.start

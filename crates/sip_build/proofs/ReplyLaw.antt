@@ -1,5 +1,5 @@
 -- Where a reply goes, case by case.
-use Rattle.std.proofs.Common.{◌≡◌, ℕ, Bool, true, false, refl, ap, ◌∙◌, Some, None}
+use Rattle.std.proofs.Common.{◌≡◌, ℕ, false, refl, ap, ◌∙◌, Some, None}
 use Rattle.std.specs.Prelude.{Option}
 use Rattle.sip_words.specs.declared.Span.{Span}
 use Rattle.sip_fields.specs.declared.via.Via.{Via}

@@ -1,9 +1,7 @@
 -- Lists of edits that make the same of every text, and the texts that follow.
-use Rattle.std.proofs.Common.{◌≡◌, ℕ, ◌+◌, ◌-◌, ◌≤◌, ◌==◌, Bool, true, false, List, [], ◌∷◌, ◌++◌, length, take, refl, sym, ap, ◌∙◌, arith, append_assoc, subst, Some}
-use Rattle.std.specs.Prelude.{map, ◌||◌, if◌then◌else◌, codes}
-use Rattle.std.specs.Fmt.{decimal}
+use Rattle.std.proofs.Common.{◌≡◌, ℕ, ◌+◌, ◌==◌, Bool, true, false, List, [], ◌∷◌, ◌++◌, length, take, refl, sym, ap, ◌∙◌, arith, append_assoc, subst}
+use Rattle.std.specs.Prelude.{◌||◌, if◌then◌else◌, codes}
 use Rattle.std.specs.List.{filter, flat_map}
-use Rattle.std.proofs.lemmas.Bool.{cases_Bool}
 use Rattle.std.proofs.lemmas.List.{append-nil}
 use Rattle.std.proofs.lemmas.List.Concat.{flat_map-append}
 use Rattle.std.proofs.lemmas.List.Folds.{list_any-append}
@@ -12,7 +10,7 @@ use Rattle.sip_words.specs.declared.Span.{Span}
 use Rattle.sip_scan.specs.declared.field.HeaderSpan.{HeaderSpan}
 use Rattle.msg_edits.specs.declared.parts.Edit.{Edit}
 use Rattle.msg_edits.specs.declared.parts.Edit.TheVariants.{Cut, Insert}
-use Rattle.msg_edits.specs.Edited.{text_at, cuts_byte, is_cut, inserted_at, edited_byte, edited_from, edited}
+use Rattle.msg_edits.specs.Edited.{text_at, cuts_byte, edited_from, edited}
 use Rattle.msg_edits.proofs.Grown.{same_bytes}
 use Rattle.sip_scan.specs.declared.field.Kind.TheVariants as kind
 use Rattle.sip_msg.specs.declared.message.Message.{Message}
@@ -22,7 +20,7 @@ use Rattle.outside_ports.specs.declared.port.Addr.{Addr}
 use Rattle.sip_build.specs.Parts.{part, edited_field, uri_of, routes, is_route, place_of}
 use Rattle.sip_build.specs.Stamp.{stamp}
 use Rattle.sip_build.specs.Relayed.{without_top_via, relayed_text}
-use Rattle.sip_build.specs.Forwarded.{replaced, via_line, with_via, with_hops, forwarding, forwarded_text}
+use Rattle.sip_build.specs.Forwarded.{replaced, via_line, with_hops, forwarding, forwarded_text}
 use Rattle.sip_build.specs.declared.stamp.Stamp.{Stamp}
 use Rattle.sip_build.specs.declared.forwarding.Hops.{Hops}
 use Rattle.sip_build.specs.Writing.{SameEdits, edits_of_stamp, edits_of_hops}
@@ -47,7 +45,7 @@ pub same_fields : (b : List ℕ) (xs ys : List Edit) → SameEdits xs ys → (fi
 same_fields b xs ys h [] = refl
 same_fields b xs ys h (f ∷ fields) = rw (same_from xs ys h f.whole.from (part b f.whole), same_fields b xs ys h fields) refl
 
-none_from : (i : ℕ) (bytes : List ℕ) → edited_from [] i bytes ≡ bytes
+pub none_from : (i : ℕ) (bytes : List ℕ) → edited_from [] i bytes ≡ bytes
 none_from i [] = refl
 none_from i (b ∷ bytes) = ap (λ (t : List ℕ). b ∷ t) (none_from (i + 1) bytes)
 

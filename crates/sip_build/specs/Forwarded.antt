@@ -8,7 +8,6 @@ use Rattle.sip_words.specs.Words.{run_end, lws_end}
 use Rattle.sip_scan.specs.declared.field.HeaderSpan.{HeaderSpan}
 use Rattle.sip_scan.specs.declared.field.Kind.TheVariants as kind
 use Rattle.sip_msg.specs.declared.message.Message.{Message}
-use Rattle.sip_msg.specs.declared.start.Start.{Start}
 use Rattle.sip_msg.specs.Fields.{first}
 use Rattle.msg_edits.specs.declared.parts.Edit.{Edit}
 use Rattle.msg_edits.specs.declared.parts.Edit.TheVariants.{Cut, Insert}

@@ -1,6 +1,5 @@
 -- Words in which the laws of the written texts are said.
-use Rattle.std.specs.Prelude.{◌≡◌, ℕ, ◌+◌, ◌^◌, ◌<◌, true, List, ◌∷◌, ◌++◌, length, Some, None, codes}
-use Rattle.std.specs.List.{starts_with}
+use Rattle.std.specs.Prelude.{ℕ, ◌+◌, ◌^◌, ◌<◌, List, ◌++◌, length, take, drop, Some, None, codes}
 use Rattle.std.specs.Fmt.{decimal}
 use Rattle.sip_words.specs.declared.bytes.Class.TheVariants.{Token}
 use Rattle.sip_words.specs.Grammar.{IsWord}
@@ -8,8 +7,16 @@ use Rattle.sip_words.specs.Spans.{span}
 use Rattle.sip_fields.specs.declared.host.Host.TheVariants.{V4}
 use Rattle.sip_fields.specs.declared.via.Via.{Via}
 use Rattle.sip_fields.specs.declared.via.Rport.TheVariants.{Absent}
+use Rattle.sip_scan.specs.declared.field.Kind.TheVariants as kind
+use Rattle.msg_edits.specs.declared.parts.Edit.{Edit}
+use Rattle.msg_edits.specs.Edited.{inserted_at, edited_from}
+use Rattle.sip_msg.specs.declared.message.Message.{Message}
+use Rattle.sip_msg.specs.Fields.{first}
 use Rattle.outside_ports.specs.declared.port.Addr.{Addr}
 use Rattle.numerals.specs.Numerals.{dotted, socket}
+use Rattle.sip_build.specs.Forwarded.{replaced, with_hops}
+use Rattle.sip_build.specs.Parts.{uri_of}
+use Rattle.sip_build.specs.Stamp.{stamp}
 
 -- an address and a branch of which the proxy makes its line Via
 pub record IsOwn (listen : Addr) (branch : List ℕ) : Type 0 where
@@ -38,3 +45,16 @@ own_via i listen branch =
       whole = span (i + 1) (at + length branch);
       next = None;
     }
+
+-- the edits of a forwarded request without the line Via
+abbrev pub other_edits : List ℕ → Message → Addr → List Edit → List ℕ → ℕ → List Edit
+other_edits b m source edits uri absent =
+    (stamp m.via source ++ replaced (uri_of m.start) uri)
+    ++ (with_hops b (first kind.MaxForwards m.head.fields.items) m.max_forwards m.head.body absent ++ edits)
+
+-- what an edited text has before a place, and from there on
+abbrev pub before_place : List ℕ → List Edit → ℕ → List ℕ
+before_place text edits place = edited_from edits 0 (take place text)
+
+abbrev pub from_place : List ℕ → List Edit → ℕ → List ℕ
+from_place text edits place = edited_from edits place (drop place text) ++ inserted_at edits (length text)

@@ -1,5 +1,5 @@
 -- The parts of a message that texts take over.
-use Rattle.std.specs.Prelude.{◌≡◌, ℕ, Bool, true, false, List, [], ◌∷◌, ◌++◌, Option, Some, None, slice_range}
+use Rattle.std.specs.Prelude.{ℕ, Bool, true, false, List, [], Option, Some, None, slice_range}
 use Rattle.std.specs.List.{filter, flat_map}
 use Rattle.sip_words.specs.declared.Span.{Span}
 use Rattle.sip_words.specs.Spans.{span}

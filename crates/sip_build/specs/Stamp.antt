@@ -10,7 +10,6 @@ use Rattle.sip_fields.specs.declared.via.Rport.{Rport}
 use Rattle.sip_fields.specs.declared.via.Rport.TheVariants.{Absent, Empty, Given}
 use Rattle.msg_edits.specs.declared.parts.Edit.{Edit}
 use Rattle.msg_edits.specs.declared.parts.Edit.TheVariants.{Cut, Insert}
-use Rattle.msg_edits.specs.Edited.{edited}
 use Rattle.outside_ports.specs.declared.port.Addr.{Addr}
 use Rattle.numerals.specs.Numerals.{dotted}
 

@@ -1,5 +1,5 @@
 -- What the private parts of the writing stand for.
-use Rattle.std.specs.Prelude.{◌≡◌, ℕ, ◌+◌, ◌-◌, ◌^◌, ◌<◌, ◌≤◌, Bool, List, [], ◌∷◌, ◌++◌, All, IfSome, IfOk, IfErr, OnOk, OnErr, Result, length, drop, map, min, nat_le, nat_lt, if◌then◌else◌}
+use Rattle.std.specs.Prelude.{◌≡◌, ℕ, ◌-◌, ◌^◌, ◌<◌, ◌≤◌, Bool, List, [], ◌∷◌, ◌++◌, All, IfSome, IfOk, IfErr, OnOk, OnErr, Result, length, drop, map, min, nat_le, nat_lt, if◌then◌else◌}
 use Rattle.std.specs.List.{filter, flat_map}
 use Rattle.std.specs.Borrow.{Bor}
 use Rattle.sip_words.specs.declared.Span.{Span}
@@ -9,7 +9,6 @@ use Rattle.sip_scan.specs.declared.field.HeaderSpan.{HeaderSpan}
 use Rattle.sip_scan.specs.declared.field.Kind.TheVariants as kind
 use Rattle.msg_edits.specs.declared.parts.Edit.{Edit}
 use Rattle.msg_edits.specs.declared.parts.Edit.TheVariants.{Cut, Insert}
-use Rattle.msg_edits.specs.declared.parts.Change.{Change}
 use Rattle.msg_edits.specs.declared.writing.TooLong.{TooLong}
 use Rattle.msg_edits.specs.Change.{edit_of}
 use Rattle.msg_edits.specs.Edited.{is_cut, inserted_at}

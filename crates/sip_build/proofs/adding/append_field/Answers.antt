@@ -1,4 +1,4 @@
-use Rattle.std.proofs.Common.{◌≡◌, List, ℕ, ◌∙◌, arith, sym, length, length-take, ◌≤◌, ◌+◌}
+use Rattle.std.proofs.Common.{◌≡◌, arith, sym, length, length-take, ◌+◌}
 use Rattle.sip_build.specs.Parts.{part}
 use Rattle.sip_build.proofs.Moved.{field_added}
 use Rattle.sip_build.proofs.adding.append_field.Goals as goal

@@ -1,9 +1,7 @@
-use Rattle.std.proofs.Common.{◌≡◌, ◌∷◌, [], List, ℕ, ◌++◌, ◌∙◌, arith, refl, length-take}
-use Rattle.std.specs.Prelude.{codes}
+use Rattle.std.proofs.Common.{◌∷◌, [], List, ◌∙◌, arith, refl, length-take}
 use Rattle.msg_edits.specs.Change.{edit_of}
 use Rattle.msg_edits.specs.declared.parts.Edit.{Edit}
 use Rattle.msg_edits.specs.declared.parts.Edit.TheVariants.{Cut}
-use Rattle.numerals.specs.Numerals.{socket}
 use Rattle.sip_build.proofs.Readings.{end_within}
 use Rattle.sip_build.proofs.SameTexts.{forwarded_is}
 use Rattle.sip_build.proofs.forwarding.forwarded.Goals as goal

@@ -1,7 +1,6 @@
-use Rattle.std.proofs.Common.{List, ℕ, ◌++◌, map, arith, ◌≤◌}
+use Rattle.std.proofs.Common.{map, arith}
 use Rattle.msg_edits.specs.Edited.{edited}
 use Rattle.msg_edits.specs.Change.{edit_of}
-use Rattle.msg_edits.specs.Writing.{IsWritten}
 use Rattle.sip_build.proofs.Behind.{written_behind}
 use Rattle.sip_build.proofs.joined.put_edited.Goals as goal
 

@@ -1,6 +1,5 @@
-use Rattle.std.proofs.Common.{List, ℕ, ◌++◌, map}
+use Rattle.std.proofs.Common.{map}
 use Rattle.msg_edits.specs.Change.{edit_of}
-use Rattle.msg_edits.specs.Writing.{IsWritten}
 use Rattle.sip_build.proofs.Within.{part_within}
 use Rattle.sip_build.proofs.joined.put_part.Goals as goal
 

@@ -1,5 +1,4 @@
-use Rattle.std.proofs.Common.{◌≡◌, List, ℕ, [], ◌++◌, append_assoc, refl, arith}
-use Rattle.msg_edits.specs.Writing.{IsWritten}
+use Rattle.std.proofs.Common.{[], ◌++◌, append_assoc}
 use Rattle.sip_build.specs.Writing.{fields_text, pieces_text, joined_text}
 use Rattle.sip_build.proofs.Behind.{nothing_written}
 use Rattle.sip_build.proofs.joined.Joined.write.Goals as goal
