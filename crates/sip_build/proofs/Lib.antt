@@ -9,3 +9,10 @@ pub mod ReplyLaw
 pub mod OwnVia
 pub mod PutIn
 pub mod LineLaw
+pub mod ReadTwins
+pub mod Twins
+pub mod NewVia
+pub mod Under
+pub mod Spelt
+pub mod UnderVia
+pub mod ReadsUnder

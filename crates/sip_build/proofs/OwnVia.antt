@@ -32,7 +32,7 @@ all_digits_append : (xs : List ℕ) (b : ℕ) → AllByRecursion (λ b. has Digi
 all_digits_append [] b a h = (h, tt)
 all_digits_append (x ∷ xs) b a h = (a.0, all_digits_append xs b a.1 h)
 
-decimal_digits : (n : ℕ) → n < 2 ^ 64 → AllByRecursion (λ b. has Digit b ≡ true) (decimal n)
+pub decimal_digits : (n : ℕ) → n < 2 ^ 64 → AllByRecursion (λ b. has Digit b ≡ true) (decimal n)
 decimal_digits n small = decimal_by_steps (λ m ds. AllByRecursion (λ b. has Digit b ≡ true) ds) (λ m lt. (digit m lt, tt)) (λ m ds le all. all_digits_append ds (48 + m % 10) all (digit (m % 10) (omega arith))) n small
 
 decimal_word : (n : ℕ) → n < 2 ^ 64 → IsWord Digit (decimal n)

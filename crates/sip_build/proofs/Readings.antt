@@ -65,7 +65,7 @@ if_some P Q f (Some x) h = f x h
 at_first : (k : Kind) (fields : List HeaderSpan) (P : ℕ → ℕ → Type 0) (f : HeaderSpan) → first k fields ≡ Some f → InFirst k fields P → P f.value.from f.value.to
 at_first k fields P f e h = let Q : Option HeaderSpan → Type 0 = λ o. IfSome o (λ g. P g.value.from g.value.to) in subst Q e h
 
-via_field : (b : List ℕ) (fields : List HeaderSpan) (m : Message) → via_of b fields ≡ Some m.via → (f : HeaderSpan) × (first kind.Via fields ≡ Some f)
+pub via_field : (b : List ℕ) (fields : List HeaderSpan) (m : Message) → via_of b fields ≡ Some m.via → (f : HeaderSpan) × (first kind.Via fields ≡ Some f)
 unfolding via_of
 via_field b fields m e = let f = bind_some (first kind.Via fields) _ m.via e in (f.0, f.1)
 

@@ -1,5 +1,5 @@
 -- Words in which the laws of the written texts are said.
-use Rattle.std.specs.Prelude.{ℕ, ◌+◌, ◌^◌, ◌<◌, List, ◌++◌, length, take, drop, Some, None, codes}
+use Rattle.std.specs.Prelude.{◌≡◌, IfSome, ℕ, ◌+◌, ◌^◌, ◌<◌, List, ◌++◌, length, take, drop, Some, None, codes}
 use Rattle.std.specs.Fmt.{decimal}
 use Rattle.sip_words.specs.declared.bytes.Class.TheVariants.{Token}
 use Rattle.sip_words.specs.Grammar.{IsWord}
@@ -12,10 +12,11 @@ use Rattle.msg_edits.specs.declared.parts.Edit.{Edit}
 use Rattle.msg_edits.specs.Edited.{inserted_at, edited_from}
 use Rattle.sip_msg.specs.declared.message.Message.{Message}
 use Rattle.sip_msg.specs.Fields.{first}
+use Rattle.sip_msg.specs.Table.{Reads}
 use Rattle.outside_ports.specs.declared.port.Addr.{Addr}
 use Rattle.numerals.specs.Numerals.{dotted, socket}
-use Rattle.sip_build.specs.Forwarded.{replaced, with_hops}
-use Rattle.sip_build.specs.Parts.{uri_of}
+use Rattle.sip_build.specs.Forwarded.{replaced, via_line, with_hops}
+use Rattle.sip_build.specs.Parts.{part, uri_of}
 use Rattle.sip_build.specs.Stamp.{stamp}
 
 -- an address and a branch of which the proxy makes its line Via
@@ -58,3 +59,14 @@ before_place text edits place = edited_from edits 0 (take place text)
 
 abbrev pub from_place : List ℕ → List Edit → ℕ → List ℕ
 from_place text edits place = edited_from edits place (drop place text) ++ inserted_at edits (length text)
+
+-- the text c reads as a message whose top Via is the proxy's own, in the line that begins at a place; its start line, the number of its CSeq and its Max-Forwards are those of m, and its body stands as many bytes behind as the line has
+pub record ReadsUnder (m : Message) (c : List ℕ) (place : ℕ) (listen : Addr) (branch : List ℕ) (under : Message) : Type 0 where
+  pub reads : Reads c under
+  pub via : under.via ≡ own_via (place + 4) listen branch
+  pub token : IfSome under.via.branch (λ s. part c s ≡ branch)
+  pub start : under.start ≡ m.start
+  pub number : under.cseq.number ≡ m.cseq.number
+  pub max_forwards : under.max_forwards ≡ m.max_forwards
+  pub body : under.head.body ≡ m.head.body + length (via_line listen branch)
+  pub end : under.end ≡ m.end + length (via_line listen branch)

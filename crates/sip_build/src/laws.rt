@@ -1,5 +1,6 @@
 //! Laws of the written texts, for the layers above. Each function states a law, and does nothing when it is called.
-ghost use Rattle.std.specs.Prelude.{◌≡◌, ◌≤◌, ◌+◌, ◌++◌, ℕ, List, length, drop, take, slice_range, false, Some, None, []};
+ghost use Rattle.std.specs.Prelude.{◌≡◌, ◌≤◌, ◌+◌, ◌++◌, ℕ, List, length, drop, take, slice_range, nat_eq, codes, true, false, Some, None, []};
+ghost use Rattle.std.specs.List.{starts_with};
 ghost use Rattle.outside_ports.specs.declared.port.Addr.{Addr as Address};
 ghost use Rattle.sip_words.specs.declared.Span.{Span as Place};
 ghost use Rattle.sip_fields.specs.declared.via.Via.{Via as ViaValue};
@@ -17,7 +18,7 @@ ghost use Rattle.sip_msg.specs.Table.{Reads};
 ghost use Rattle.sip_build.specs.Parts.{place_of};
 ghost use Rattle.sip_build.specs.Forwarded.{via_line, forwarded_text};
 ghost use Rattle.sip_build.specs.Relayed.{relayed_text};
-ghost use Rattle.sip_build.specs.Laws.{IsOwn, own_value, own_via, other_edits, before_place, from_place};
+ghost use Rattle.sip_build.specs.Laws.{IsOwn, own_value, own_via, other_edits, before_place, from_place, ReadsUnder};
 
 /// A reply goes to the address that its request came from. Its port is the source port where rport stands without a
 /// value (RFC 3581, section 4), and else that of the top Via value, or 5060 where it names none (RFC 3261,
@@ -56,4 +57,14 @@ pub fn the_top_via_is_taken_away()
         → relayed_text b m [] ≡ take field.whole.from b ++ slice_range b field.whole.to m.end }
     ensures more { (b : List ℕ) (m : Incoming) (next : ℕ) → Reads b m → m.via.next ≡ Some next
         → relayed_text b m [] ≡ take m.via.whole.from b ++ slice_range b next m.end }
+{}
+
+/// A message reads also with the proxy's line Via put in before its first Via field, where it has less than 128 fields
+/// and there is room for the line: its top Via is then the proxy's, and it is a message as it was.
+pub fn a_message_reads_under_the_line()
+    ensures { (b : List ℕ) (m : Incoming) (listen : Address) (branch : List ℕ) → Reads b m → IsOwn listen branch
+        → starts_with nat_eq branch (codes "z9hG4bK") ≡ true → length m.head.fields.items ≤ 127
+        → length b + length (via_line listen branch) ≤ 8192
+        → let place = place_of (first kind.Via m.head.fields.items) (m.head.start.to + 2) in
+        (under : Incoming) × ReadsUnder m (take place b ++ (via_line listen branch ++ drop place b)) place listen branch under }
 {}
