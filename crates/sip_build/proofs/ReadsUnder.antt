@@ -26,12 +26,13 @@ use Rattle.sip_msg.proofs.Lies.{lies, complete}
 use Rattle.sip_msg.proofs.Rows.{Begins, begins, is_head, later, no_later}
 use Rattle.outside_ports.specs.declared.port.Addr.{Addr}
 use Rattle.sip_build.specs.Forwarded.{via_line}
-use Rattle.sip_build.specs.Laws.{IsOwn, own_via, ReadsUnder}
+use Rattle.sip_build.specs.Laws.{IsOwn, own_via, SameFields, HasOneMore, ReadsUnder}
 use Rattle.sip_build.specs.Parts.{place_of}
 use Rattle.sip_build.proofs.NewVia.{new_field, new_field_is, is_new_field}
 use Rattle.sip_build.proofs.Under.{Under}
 use Rattle.sip_build.proofs.Spelt.{Spelt, spelt, fields_from, with_field, is_with, before_fields, behind_fields, front_length, fields_append, old_fields, new_fields, put_before, under}
-use Rattle.sip_build.proofs.Twins.{places_append}
+use Rattle.sip_build.proofs.Twins.{AreTwins, places_append}
+use Rattle.std.proofs.lemmas.Slice.{between_is}
 use Rattle.sip_build.proofs.UnderVia.{new_place, values_stand, stand, stand_up, value_reads, place_is, branch_is, values_under_via, none_missing, via_under, new_list_reads, new_is_via, cookie_is}
 
 front_pieces : (a b c : List ℕ) → a ++ (b ++ c) ≡ (a ++ b) ++ c
@@ -82,8 +83,18 @@ pub record NewText (b : List ℕ) (m : Message) (c : List ℕ) (q : ℕ) (listen
   pub token : IfSome (own_via (q + 4) listen branch).branch (λ s. slice_range c s.from s.to ≡ branch)
   pub body : head.body ≡ m.head.body + length (via_line listen branch)
 
+-- twins have the same bytes
+same_fields : (b c : List ℕ) (xs ys : List HeaderSpan) → AreTwins b xs c ys → SameFields b xs c ys
+same_fields b c [] [] h = tt
+same_fields b c [] (y ∷ ys) h = absurd h
+same_fields b c (x ∷ xs) [] h = absurd h
+same_fields b c (x ∷ xs) (y ∷ ys) h = (h.0.kind, between_is b x.value.from x.value.to ∙ h.0.value.bytes ∙ sym (between_is c y.value.from y.value.to), same_fields b c xs ys h.1)
+
+one_more : (b : List ℕ) (xs : List HeaderSpan) (c : List ℕ) (ys : List HeaderSpan) (n : HeaderSpan) → Under b xs c ys n → HasOneMore b xs c ys
+one_more b xs c ys n u = record { before = u.before; one = n; after = u.after; whole = u.whole; same = same_fields b c xs (u.before ++ u.after) u.twins }
+
 -- a message that stands on these values
-pub reads_by : (b : List ℕ) (m : Message) (c : List ℕ) (q : ℕ) (listen : Addr) (branch : List ℕ) → Reads b m → starts_with nat_eq branch (codes "z9hG4bK") ≡ true → NewText b m c q listen branch → (w : Message) × ReadsUnder m c q listen branch w
+pub reads_by : (b : List ℕ) (m : Message) (c : List ℕ) (q : ℕ) (listen : Addr) (branch : List ℕ) → Reads b m → starts_with nat_eq branch (codes "z9hG4bK") ≡ true → NewText b m c q listen branch → (w : Message) × ReadsUnder b m c q listen branch w
 reads_by b m c q listen branch r cookie x =
     let items = m.head.fields.items in
     let more = length (via_line listen branch) in
@@ -116,6 +127,7 @@ reads_by b m c q listen branch r cookie x =
         via = refl;
         token = x.token;
         start = refl;
+        fields = one_more b items c x.head.fields.items (new_place q listen branch) x.under;
         number = w.3 ∙ number;
         max_forwards = w.4 ∙ hops;
         body = x.body;
@@ -200,7 +212,7 @@ new_text b m s listen branch r own few short =
 
 pub reads_under : (b : List ℕ) (m : Message) (listen : Addr) (branch : List ℕ) → Reads b m → IsOwn listen branch → starts_with nat_eq branch (codes "z9hG4bK") ≡ true → length m.head.fields.items ≤ 127 → length b + length (via_line listen branch) ≤ 8192
     → let place = place_of (first kind.Via m.head.fields.items) (m.head.start.to + 2) in
-    (w : Message) × ReadsUnder m (take place b ++ (via_line listen branch ++ drop place b)) place listen branch w
+    (w : Message) × ReadsUnder b m (take place b ++ (via_line listen branch ++ drop place b)) place listen branch w
 reads_under b m listen branch r own cookie few short =
     let s = spelt b m r in
     let n = new_field listen branch in
@@ -209,5 +221,5 @@ reads_under b m listen branch r own cookie few short =
     let at : place ≡ q = ap (λ (o : Option HeaderSpan). place_of o (m.head.start.to + 2)) s.via_is ∙ ap (λ (f : HeaderSpan). f.whole.from) s.cut.place in
     let text = put_before b s.tree s.cut.before n (s.cut.here ∷ s.cut.after) place s.text s.cut.whole at ∙ ap (λ (x : List ℕ). take place b ++ (x ++ drop place b)) (new_field_is listen branch) in
     let found = reads_by b m (message (tree_with b m s listen branch)) q listen branch r cookie (new_text b m s listen branch r own few short) in
-    let moved = subst (λ (k : ℕ). ReadsUnder m (message (tree_with b m s listen branch)) k listen branch found.0) (sym at) found.1 in
-    (found.0, subst (λ (x : List ℕ). ReadsUnder m x place listen branch found.0) text moved)
+    let moved = subst (λ (k : ℕ). ReadsUnder b m (message (tree_with b m s listen branch)) k listen branch found.0) (sym at) found.1 in
+    (found.0, subst (λ (x : List ℕ). ReadsUnder b m x place listen branch found.0) text moved)

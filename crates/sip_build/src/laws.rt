@@ -60,11 +60,11 @@ pub fn the_top_via_is_taken_away()
 {}
 
 /// A message reads also with the proxy's line Via put in before its first Via field, where it has less than 128 fields
-/// and there is room for the line: its top Via is then the proxy's, and it is a message as it was.
+/// and there is room for the line: its top Via is then the proxy's, and all else is as it was.
 pub fn a_message_reads_under_the_line()
     ensures { (b : List ℕ) (m : Incoming) (listen : Address) (branch : List ℕ) → Reads b m → IsOwn listen branch
         → starts_with nat_eq branch (codes "z9hG4bK") ≡ true → length m.head.fields.items ≤ 127
         → length b + length (via_line listen branch) ≤ 8192
         → let place = place_of (first kind.Via m.head.fields.items) (m.head.start.to + 2) in
-        (under : Incoming) × ReadsUnder m (take place b ++ (via_line listen branch ++ drop place b)) place listen branch under }
+        (under : Incoming) × ReadsUnder b m (take place b ++ (via_line listen branch ++ drop place b)) place listen branch under }
 {}
