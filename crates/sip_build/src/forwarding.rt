@@ -68,6 +68,7 @@ pub fn forwarded(
     apply_after(&b[..m.end], &changes, edits, out)
 }
 
+/// An insert of a borrowed text.
 fn insert(place: usize, text: &[u8]) -> Change<'_>
     ensures { edit_of result ≡ edit.Insert place text.now }
 {
@@ -143,6 +144,7 @@ fn number_in(text: &[u8], from: usize) -> Span
     }
 }
 
+/// One hop less, where there is a number.
 fn one_less(hops: Option<u8>) -> u8
     requires { IfSome hops (λ hops. 0 < hops) }
     ensures { result ≡ one_less hops }
@@ -153,6 +155,7 @@ fn one_less(hops: Option<u8>) -> u8
     }
 }
 
+/// A number alone.
 fn number_text(number: u8) -> ArrayString<19>
     ensures { result.bytes ≡ decimal number }
 {

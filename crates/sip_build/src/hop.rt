@@ -55,8 +55,8 @@ pub fn cancel(b: &[u8], m: &Message, out: &mut [u8]) -> Result<usize, TooLong>
     hop_request("CANCEL", b, m, to, out)
 }
 
-#[tactic(auto, using(crate::proofs::Readings::fields_lie, crate::proofs::Readings::via_within, crate::proofs::Readings::uri_within))]
 /// Writes the request with this method that goes the way of the sent request `m`.
+#[tactic(auto, using(crate::proofs::Readings::fields_lie, crate::proofs::Readings::via_within, crate::proofs::Readings::uri_within))]
 fn hop_request(
     method: &str,
     b: &[u8],

@@ -9,6 +9,8 @@
 //! - [`forwarded`] writes the request that goes on, [`relayed_reply`] the reply that goes back.
 //! - [`append_field`] puts a field into a written text.
 //! - [`ack`] and [`cancel`] write the requests that the proxy makes for a request that it sent.
+//! - [`laws`] has what the layers above use: where a reply goes, that a request reads under the proxy's line Via, and
+//!   what a relayed reply leaves away.
 #![tactic(auto)]
 
 mod adding;
