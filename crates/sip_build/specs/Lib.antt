@@ -1,0 +1,10 @@
+pub mod Addresses
+pub mod Stamp
+pub mod Parts
+pub mod Reply
+pub mod Forwarded
+pub mod Relayed
+pub mod Hop
+pub mod WithField
+pub mod Writing
+pub mod Laws

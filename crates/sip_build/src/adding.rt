@@ -1,0 +1,104 @@
+//! One field more in a written text.
+ghost use Rattle.std.specs.Prelude.{◌≡◌, ◌≤◌, ◌<◌, ◌+◌, ◌++◌, drop, length, min, take, IfSome, IfOk, IfErr, OnOk, OnErr, IsTrue};
+ghost use Rattle.sip_words.specs.Spans.{IsWithin};
+ghost use Rattle.sip_scan.specs.Lines.{is_break, skipped, is_crlf};
+ghost use Rattle.sip_msg.specs.Basis.{first_from};
+ghost use Rattle.sip_build.specs.Parts.{part};
+ghost use Rattle.sip_build.specs.WithField.{ends_before_empty, empty_line, with_field};
+
+use msg_edits::TooLong;
+use sip_msg::Span;
+use sip_words::words::stands;
+
+/// Puts the bytes of `b` at `field` before the first empty line of the first `len` bytes of `out`, behind their
+/// leading CR and LF, and says how long the text is then. A text without an empty line stays as it is. Where the text
+/// doesn't fit, `out` stays as it was.
+#[tactic(auto, unfolding(crate::specs::WithField::with_field))]
+pub fn append_field(out: &mut [u8], len: usize, b: &[u8], field: Span) -> Result<usize, TooLong>
+    requires room { len ≤ length out.old }
+    requires field { IsWithin b.now field }
+    ensures len { IfOk result (λ n. n ≡ length (with_field (take len out.old) (part b.now field))) }
+    ensures fits { OnOk result (length (with_field (take len out.old) (part b.now field)) ≤ length out.old) }
+    ensures written { IfOk result (λ n. out.new ≡ with_field (take len out.old) (part b.now field) ++ drop n out.old) }
+    ensures too_long { IfErr result (λ e. e.len ≡ min (length (with_field (take len out.old) (part b.now field))) usize.MAX) }
+    ensures no_room { OnErr result (length out.old < length (with_field (take len out.old) (part b.now field))) }
+    ensures refused { OnErr result (out.new ≡ out.old) }
+{
+    let bytes = &b[field.from..field.to];
+    let Some(place) = empty_line(&out[..len]) else {
+        return Ok(len);
+    };
+    let end = len.saturating_add(bytes.len());
+    if end > out.len() {
+        return Err(TooLong { len: end });
+    }
+    out.copy_within(place..len, place + bytes.len());
+    out[place..place + bytes.len()].copy_from_slice(bytes);
+    Ok(end)
+}
+
+/// Whether the byte is CR or LF.
+fn is_break(b: u8) -> bool
+    ensures { result ≡ is_break b }
+{
+    matches!(b, b'\r' | b'\n')
+}
+
+/// How many bytes of CR and LF stand in front.
+#[tactic(auto, using(sip_scan::proofs::Runs::skip_stops, sip_scan::proofs::Runs::skip_goes, sip_scan::proofs::Runs::skip_all, sip_scan::proofs::Runs::skip_starts))]
+fn skipped(text: &[u8]) -> usize
+    ensures value { result ≡ skipped text.now }
+    ensures within { result ≤ length text.now }
+{
+    for at in 0..text.len() {
+        if !is_break(text[at]) {
+            return at;
+        }
+    }
+    text.len()
+}
+
+/// Whether a CRLF stands at `at`.
+#[tactic(auto, unfolding(sip_scan::specs::Lines::is_crlf))]
+fn is_crlf(text: &[u8], at: usize) -> bool
+    requires { at < usize.MAX }
+    ensures value { result ≡ is_crlf text.now at }
+    ensures within { IsTrue result → at + 2 ≤ length text.now }
+{
+    stands(text, at, b'\r') && stands(text, at + 1, b'\n')
+}
+
+/// Whether the CRLF at `at` ends a line, and the line behind it is empty.
+#[tactic(auto, unfolding(crate::specs::WithField::ends_before_empty))]
+fn ends_before_empty(text: &[u8], at: usize) -> bool
+    requires { at < length text.now }
+    ensures value { result ≡ ends_before_empty text.now at }
+    ensures within { IsTrue result → at + 4 ≤ length text.now }
+{
+    is_crlf(text, at) && is_crlf(text, at + 2)
+}
+
+/// The first CRLF from `from` on behind which an empty line stands.
+#[tactic(auto, using(sip_msg::proofs::Places::here, sip_msg::proofs::Places::goes, sip_msg::proofs::Places::none))]
+fn last_crlf(text: &[u8], from: usize) -> Option<usize>
+    requires { from ≤ length text.now }
+    ensures value { result ≡ first_from (ends_before_empty text.now) text.now from }
+    ensures within { IfSome result (λ at. at + 4 ≤ length text.now) }
+{
+    for at in from..text.len() {
+        if ends_before_empty(text, at) {
+            return Some(at);
+        }
+    }
+    None
+}
+
+/// Where the first empty line behind the CR and LF in front begins.
+#[tactic(auto, unfolding(crate::specs::WithField::empty_line))]
+fn empty_line(text: &[u8]) -> Option<usize>
+    ensures value { result ≡ empty_line text.now }
+    ensures within { IfSome result (λ place. place + 2 ≤ length text.now) }
+{
+    let at = last_crlf(text, skipped(text))?;
+    Some(at + 2)
+}

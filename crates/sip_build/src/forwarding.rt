@@ -1,0 +1,176 @@
+//! The request that goes on (RFC 3261, section 16.6).
+ghost use Rattle.std.specs.Prelude.{◌≡◌, ◌≤◌, ◌<◌, ◌+◌, ◌-◌, [], ◌∷◌, ◌++◌, codes, drop, length, map, min, take, IfSome, IfOk, IfErr, OnOk, OnErr};
+ghost use Rattle.std.specs.Fmt.{decimal};
+ghost use Rattle.sip_words.specs.Spans.{IsWithin};
+ghost use Rattle.sip_scan.specs.declared.field.Kind.TheVariants as kind;
+ghost use Rattle.msg_edits.specs.declared.parts.Edit.TheVariants as edit;
+ghost use Rattle.msg_edits.specs.Change.{edit_of};
+ghost use Rattle.sip_msg.specs.Fields.{first};
+ghost use Rattle.sip_msg.specs.Table.{Reads};
+ghost use Rattle.numerals.specs.Numerals.{socket};
+ghost use Rattle.sip_build.specs.Parts.{place_of};
+ghost use Rattle.sip_build.specs.Forwarded.{number_in, one_less, with_hops, forwarded_text};
+ghost use Rattle.sip_build.specs.Writing.{SameEdits, FieldsLie, edits_of_hops};
+
+use crate::addresses::{push_ip, push_number, push_octet};
+use crate::fields::{first, uri_of};
+use crate::stamp::Stamp;
+use arrayvec::ArrayString;
+use msg_edits::{Change, Edits, TooLong, apply_after};
+use outside_ports::Addr;
+use sip_msg::{Message, Span};
+use sip_scan::Kind;
+use sip_words::Class;
+use sip_words::words::{lws_end, run_end};
+
+/// Writes the request `m`, which came from `from`, as it goes on. In this order it is stamped; its URI is replaced by
+/// `uri`; a line Via with the address `listen` and the branch `branch` is put before its first Via field; the number
+/// of Max-Forwards is lowered by one, or a field Max-Forwards with `absent_hops` is put before the empty line where it
+/// has none; and the edits are made. Bytes behind the end of the message are left out.
+#[tactic(auto, using(crate::proofs::Readings::fields_lie, crate::proofs::Readings::end_within, crate::proofs::Readings::line_low, crate::proofs::Readings::body_low))]
+pub fn forwarded(
+    b: &[u8],
+    m: &Message,
+    from: Addr,
+    edits: &Edits,
+    uri: &[u8],
+    listen: Addr,
+    branch: &[u8],
+    absent_hops: u8,
+    out: &mut [u8],
+) -> Result<usize, TooLong>
+    requires reading { Reads b.now m.now }
+    requires hops { IfSome m.now.max_forwards (λ hops. 0 < hops) }
+    ensures len { IfOk result (λ n. n ≡ length (forwarded_text b.now m.now from edits.now uri.now listen branch.now absent_hops)) }
+    ensures fits { OnOk result (length (forwarded_text b.now m.now from edits.now uri.now listen branch.now absent_hops) ≤ length out.old) }
+    ensures written { IfOk result (λ n. out.new ≡ forwarded_text b.now m.now from edits.now uri.now listen branch.now absent_hops ++ drop n out.old) }
+    ensures too_long { IfErr result (λ e. e.len ≡ min (length (forwarded_text b.now m.now from edits.now uri.now listen branch.now absent_hops)) usize.MAX) }
+    ensures no_room { OnErr result (length out.old < length (forwarded_text b.now m.now from edits.now uri.now listen branch.now absent_hops)) }
+    ensures refused { OnErr result (out.new ≡ out.old) }
+{
+    let stamp = Stamp::of(&m.via, from);
+    let via = via_front(listen);
+    let hops = Hops::of(b, m, absent_hops);
+    let uri_at = uri_of(m.start);
+    let place = via_place(b, m);
+    let changes = [
+        stamp.received(),
+        stamp.port(),
+        stamp.address(),
+        Change::Cut(uri_at),
+        insert(uri_at.from, uri),
+        insert(place, via.as_str().as_bytes()),
+        insert(place, branch),
+        insert(place, b"\r\n"),
+        Change::Cut(hops.at),
+        insert(hops.at.from, hops.text.as_str().as_bytes()),
+    ];
+    apply_after(&b[..m.end], &changes, edits, out)
+}
+
+/// An insert of a borrowed text.
+fn insert(place: usize, text: &[u8]) -> Change<'_>
+    ensures { edit_of result ≡ edit.Insert place text.now }
+{
+    Change::Insert { place, text }
+}
+
+/// Where the line Via goes: before the first Via field.
+fn via_place(b: &[u8], m: &Message) -> usize
+    requires fields { FieldsLie b.now m.now.head.fields.items }
+    requires line { m.now.head.start.to + 4 ≤ length b.now }
+    ensures { result ≡ place_of (first kind.Via m.now.head.fields.items) (m.now.head.start.to + 2) }
+{
+    match first(b, &m.head.fields, Kind::Via) {
+        Some(field) => field.whole.from,
+        None => m.head.start.to + 2,
+    }
+}
+
+/// The line Via up to the branch.
+fn via_front(listen: Addr) -> ArrayString<46>
+    ensures { result.bytes ≡ codes "Via: SIP/2.0/UDP " ++ (socket listen ++ codes ";branch=") }
+{
+    let mut text = ArrayString::new();
+    text.push_str("Via: SIP/2.0/UDP ");
+    push_ip(&mut text, listen.ip);
+    text.push_str(":");
+    push_number(&mut text, listen.port);
+    text.push_str(";branch=");
+    text
+}
+
+/// What becomes of Max-Forwards: the bytes at a span are replaced by a text.
+#[derive(Clone, Copy)]
+struct Hops {
+    at: Span,
+    text: ArrayString<19>,
+}
+
+impl Hops {
+    /// One less, where the field stands; else a field before the empty line.
+    fn of(b: &[u8], m: &Message, absent_hops: u8) -> Hops
+        requires fields { FieldsLie b.now m.now.head.fields.items }
+        requires body { 2 ≤ m.now.head.body }
+        requires hops { IfSome m.now.max_forwards (λ hops. 0 < hops) }
+        ensures { SameEdits (edits_of_hops result) (with_hops b.now (first kind.MaxForwards m.now.head.fields.items) m.now.max_forwards m.now.head.body absent_hops) }
+    {
+        match first(b, &m.head.fields, Kind::MaxForwards) {
+            Some(field) => Hops {
+                at: number_in(&b[..field.value.to], field.value.from),
+                text: number_text(one_less(m.max_forwards)),
+            },
+            None => Hops {
+                at: Span {
+                    from: m.head.body - 2,
+                    to: m.head.body - 2,
+                },
+                text: hops_line(absent_hops),
+            },
+        }
+    }
+}
+
+/// The digits of a number that LWS may stand round.
+#[tactic(auto, unfolding(crate::specs::Forwarded::number_in))]
+fn number_in(text: &[u8], from: usize) -> Span
+    requires { from ≤ length text.now }
+    ensures { result ≡ number_in text.now from }
+{
+    let start = lws_end(text, from);
+    Span {
+        from: start,
+        to: run_end(text, start, Class::Digit),
+    }
+}
+
+/// One hop less, where there is a number.
+fn one_less(hops: Option<u8>) -> u8
+    requires { IfSome hops (λ hops. 0 < hops) }
+    ensures { result ≡ one_less hops }
+{
+    match hops {
+        Some(hops) => hops - 1,
+        None => 0,
+    }
+}
+
+/// A number alone.
+fn number_text(number: u8) -> ArrayString<19>
+    ensures { result.bytes ≡ decimal number }
+{
+    let mut text = ArrayString::new();
+    push_octet(&mut text, number);
+    text
+}
+
+/// A field Max-Forwards.
+fn hops_line(number: u8) -> ArrayString<19>
+    ensures { result.bytes ≡ codes "Max-Forwards: " ++ (decimal number ++ codes "\r\n") }
+{
+    let mut text = ArrayString::new();
+    text.push_str("Max-Forwards: ");
+    push_octet(&mut text, number);
+    text.push_str("\r\n");
+    text
+}

@@ -1,0 +1,35 @@
+//! Every text that the proxy writes by itself, and where a reply goes (RFC 3261, sections 8.2.6, 9.1, 16.6, 16.7,
+//! 17.1.1.3 and 18.2; RFC 3581).
+//!
+//! Each text is a joining of parts of messages as they were received, and is defined in `specs/` as a whole list of
+//! bytes. A call writes it to the front of the caller's room, and says how long it is. Where it doesn't fit, the
+//! room stays as it was, and [`TooLong`] tells how long the text would be. Nothing here takes memory.
+//!
+//! - [`reply`] and [`basis_reply`] write the answers that the proxy makes, and [`reply_to`] says where they go.
+//! - [`forwarded`] writes the request that goes on, [`relayed_reply`] the reply that goes back.
+//! - [`append_field`] puts a field into a written text.
+//! - [`ack`] and [`cancel`] write the requests that the proxy makes for a request that it sent.
+//! - [`laws`] has what the layers above use: where a reply goes, that a request reads under the proxy's line Via, and
+//!   what a relayed reply leaves away.
+#![tactic(auto)]
+
+mod adding;
+mod addresses;
+mod answers;
+mod fields;
+mod forwarding;
+mod hop;
+mod joined;
+pub mod laws;
+mod relaying;
+mod stamp;
+#[cfg(test)]
+mod tests;
+
+pub use adding::append_field;
+pub use addresses::reply_to;
+pub use answers::{basis_reply, reply};
+pub use forwarding::forwarded;
+pub use hop::{ack, cancel};
+pub use msg_edits::TooLong;
+pub use relaying::relayed_reply;
