@@ -16,3 +16,4 @@ pub mod Under
 pub mod Spelt
 pub mod UnderVia
 pub mod ReadsUnder
+pub mod OnTop

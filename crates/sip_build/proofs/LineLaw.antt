@@ -121,14 +121,14 @@ tail_behind end n (Last bs) e = absurd (cc)
 tail_behind end n (More m rest) e = let is : end + length (mark 44 m) ≡ n = same_Some _ n e in omega arith
 
 -- the next value stands behind the value
-next_behind : (text : List ℕ) (i n : ℕ) (v : Via) → i ≤ length text → via_at text i ≡ Some v → v.next ≡ Some n → v.whole.to ≤ n
+pub next_behind : (text : List ℕ) (i n : ℕ) (v : Via) → i ≤ length text → via_at text i ≡ Some v → v.next ≡ Some n → v.whole.to ≤ n
 next_behind text i n v le e h =
     let t = via_takes text i v e in
     let is = same_Some (via_place i t.0) v (sym (via_again text i t.0 le t.2 t.1) ∙ e) in
     let P : Via → Type 0 = λ w. w.next ≡ Some n → w.whole.to ≤ n in
     subst P is (λ k. tail_behind (via_place i t.0).whole.to n t.0.tail k) h
 
-via_reads : (b : List ℕ) (m : Message) (f : HeaderSpan) → via_of b m.head.fields.items ≡ Some m.via → first kind.Via m.head.fields.items ≡ Some f → via_at (take f.value.to b) f.value.from ≡ Some m.via
+pub via_reads : (b : List ℕ) (m : Message) (f : HeaderSpan) → via_of b m.head.fields.items ≡ Some m.via → first kind.Via m.head.fields.items ≡ Some f → via_at (take f.value.to b) f.value.from ≡ Some m.via
 unfolding via_of
 via_reads b m f e h =
     let g = bind_some (first kind.Via m.head.fields.items) _ m.via e in

@@ -1,11 +1,12 @@
 //! Laws of the written texts, for the layers above. Each function states a law, and does nothing when it is called.
-ghost use Rattle.std.specs.Prelude.{◌≡◌, ◌≤◌, ◌+◌, ◌++◌, ℕ, List, length, drop, take, slice_range, nat_eq, codes, true, false, Some, None, []};
+ghost use Rattle.std.specs.Prelude.{◌≡◌, ◌≤◌, ◌+◌, ◌-◌, ◌++◌, ℕ, List, length, drop, take, slice_range, nat_eq, codes, true, false, Some, None, []};
 ghost use Rattle.std.specs.List.{starts_with};
 ghost use Rattle.outside_ports.specs.declared.port.Addr.{Addr as Address};
 ghost use Rattle.sip_words.specs.declared.Span.{Span as Place};
 ghost use Rattle.sip_fields.specs.declared.via.Via.{Via as ViaValue};
 ghost use Rattle.sip_fields.specs.declared.via.Rport.TheVariants as rport;
 ghost use Rattle.sip_fields.specs.Via.{via_at};
+ghost use Rattle.sip_fields.specs.ViaGrammar.{ViaTree, via_place};
 ghost use Rattle.sip_build.specs.Addresses.{reply_address};
 ghost use Rattle.sip_build.specs.Stamp.{asks_for_port};
 ghost use Rattle.sip_scan.specs.declared.field.HeaderSpan.{HeaderSpan as Field};
@@ -67,4 +68,27 @@ pub fn a_message_reads_under_the_line()
         → length b + length (via_line listen branch) ≤ 8192
         → let place = place_of (first kind.Via m.head.fields.items) (m.head.start.to + 2) in
         (under : Incoming) × ReadsUnder b m (take place b ++ (via_line listen branch ++ drop place b)) place listen branch under }
+{}
+
+/// What is forwarded reads, wherever the text with the other edits reads and its first Via field begins where the line is
+/// put in (edits of the script may break both). Its top Via is then the proxy's, with the branch, and all else is as it is in
+/// that text.
+pub fn what_is_forwarded_reads()
+    ensures { (b : List ℕ) (m : Incoming) (source : Address) (edits : List Edit) (uri : List ℕ) (listen : Address) (branch : List ℕ) (absent : ℕ) (t : Incoming)
+        → Reads b m → IsOwn listen branch → starts_with nat_eq branch (codes "z9hG4bK") ≡ true
+        → let text = take m.end b in
+        let others = other_edits b m source edits uri absent in
+        let front = before_place text others (place_of (first kind.Via m.head.fields.items) (m.head.start.to + 2)) in
+        Reads (edited text others) t → place_of (first kind.Via t.head.fields.items) (t.head.start.to + 2) ≡ length front
+        → length t.head.fields.items ≤ 127 → length (edited text others) + length (via_line listen branch) ≤ 8192
+        → (under : Incoming) × ReadsUnder (edited text others) t (forwarded_text b m source edits uri listen branch absent) (length front) listen branch under }
+{}
+
+/// A relayed reply, without edits of the script, has the Via below: where the top value has another behind it in its field,
+/// that one reads in its place, as the same value, each part at its place there.
+pub fn the_value_below_reads()
+    ensures { (b : List ℕ) (m : Incoming) (field : Field) (next : ℕ) (via : ViaValue) → Reads b m → first kind.Via m.head.fields.items ≡ Some field
+        → m.via.next ≡ Some next → via_at (take field.value.to b) next ≡ Some via
+        → (t : ViaTree) × (via ≡ via_place next t)
+        × (via_at (take (m.via.whole.from + (field.value.to - next)) (relayed_text b m [])) m.via.whole.from ≡ Some (via_place m.via.whole.from t)) }
 {}
