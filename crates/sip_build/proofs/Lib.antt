@@ -17,3 +17,4 @@ pub mod Spelt
 pub mod UnderVia
 pub mod ReadsUnder
 pub mod OnTop
+pub mod Away

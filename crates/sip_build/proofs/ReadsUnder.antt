@@ -52,7 +52,7 @@ start_here b line s e h =
     let P : Span → Type 0 = λ x. start_at (take x.to b) x.from ≡ Some s in
     subst P same l.2
 
-places_length : (i : ℕ) (ts : List FieldTree) → length (field_places i ts) ≡ length ts
+pub places_length : (i : ℕ) (ts : List FieldTree) → length (field_places i ts) ≡ length ts
 places_length i [] = refl
 places_length i (t ∷ ts) = let rest = places_length (i + length (field t)) ts in omega (arith, rest)
 
@@ -84,7 +84,7 @@ pub record NewText (b : List ℕ) (m : Message) (c : List ℕ) (q : ℕ) (listen
   pub body : head.body ≡ m.head.body + length (via_line listen branch)
 
 -- twins have the same bytes
-same_fields : (b c : List ℕ) (xs ys : List HeaderSpan) → AreTwins b xs c ys → SameFields b xs c ys
+pub same_fields : (b c : List ℕ) (xs ys : List HeaderSpan) → AreTwins b xs c ys → SameFields b xs c ys
 same_fields b c [] [] h = tt
 same_fields b c [] (y ∷ ys) h = absurd h
 same_fields b c (x ∷ xs) [] h = absurd h

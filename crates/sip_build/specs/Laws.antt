@@ -87,3 +87,11 @@ pub record ReadsUnder (b : List ℕ) (m : Message) (c : List ℕ) (place : ℕ) 
   pub max_forwards : under.max_forwards ≡ m.max_forwards
   pub body : under.head.body ≡ m.head.body + length (via_line listen branch)
   pub end : under.end ≡ m.end + length (via_line listen branch)
+
+-- the fields of the text c are those of b without this one, before which none is a Via
+pub record HasAllBut (b : List ℕ) (xs : List HeaderSpan) (field : HeaderSpan) (c : List ℕ) (ys : List HeaderSpan) : Type 0 where
+  pub before : List HeaderSpan
+  pub after : List HeaderSpan
+  pub whole : xs ≡ before ++ (field ∷ after)
+  pub none : first kind.Via before ≡ None
+  pub same : SameFields c ys b (before ++ after)

@@ -1,5 +1,5 @@
 //! Laws of the written texts, for the layers above. Each function states a law, and does nothing when it is called.
-ghost use Rattle.std.specs.Prelude.{◌≡◌, ◌≤◌, ◌+◌, ◌-◌, ◌++◌, ℕ, List, length, drop, take, slice_range, nat_eq, codes, true, false, Some, None, []};
+ghost use Rattle.std.specs.Prelude.{◌≡◌, ◌≤◌, ◌+◌, ◌-◌, ◌++◌, ℕ, List, length, drop, take, slice_range, nat_eq, codes, true, false, Some, None, Ok, []};
 ghost use Rattle.std.specs.List.{starts_with};
 ghost use Rattle.outside_ports.specs.declared.port.Addr.{Addr as Address};
 ghost use Rattle.sip_words.specs.declared.Span.{Span as Place};
@@ -9,6 +9,8 @@ ghost use Rattle.sip_fields.specs.Via.{via_at};
 ghost use Rattle.sip_fields.specs.ViaGrammar.{ViaTree, via_place};
 ghost use Rattle.sip_build.specs.Addresses.{reply_address};
 ghost use Rattle.sip_build.specs.Stamp.{asks_for_port};
+ghost use Rattle.sip_scan.specs.declared.Head.{Head as HeadParts};
+ghost use Rattle.sip_scan.specs.Head.{scanned};
 ghost use Rattle.sip_scan.specs.declared.field.HeaderSpan.{HeaderSpan as Field};
 ghost use Rattle.sip_scan.specs.declared.field.Kind.TheVariants as kind;
 ghost use Rattle.msg_edits.specs.declared.parts.Edit.{Edit};
@@ -19,7 +21,7 @@ ghost use Rattle.sip_msg.specs.Table.{Reads};
 ghost use Rattle.sip_build.specs.Parts.{place_of};
 ghost use Rattle.sip_build.specs.Forwarded.{via_line, forwarded_text};
 ghost use Rattle.sip_build.specs.Relayed.{relayed_text};
-ghost use Rattle.sip_build.specs.Laws.{IsOwn, own_value, own_via, other_edits, before_place, from_place, ReadsUnder};
+ghost use Rattle.sip_build.specs.Laws.{IsOwn, own_value, own_via, other_edits, before_place, from_place, ReadsUnder, HasAllBut};
 
 /// A reply goes to the address that its request came from. Its port is the source port where rport stands without a
 /// value (RFC 3581, section 4), and else that of the top Via value, or 5060 where it names none (RFC 3261,
@@ -91,4 +93,12 @@ pub fn the_value_below_reads()
         → m.via.next ≡ Some next → via_at (take field.value.to b) next ≡ Some via
         → (t : ViaTree) × (via ≡ via_place next t)
         × (via_at (take (m.via.whole.from + (field.value.to - next)) (relayed_text b m [])) m.via.whole.from ≡ Some (via_place m.via.whole.from t)) }
+{}
+
+/// A relayed reply, without edits of the script, has the Via below: where the top value is alone in its field, the reply's
+/// head reads, and its fields are those of the response without that field, with the same bytes, in order. So its first Via
+/// field is the response's second one.
+pub fn the_fields_below_stand()
+    ensures { (b : List ℕ) (m : Incoming) (field : Field) → Reads b m → m.via.next ≡ None → first kind.Via m.head.fields.items ≡ Some field
+        → (h : HeadParts) × (scanned (relayed_text b m []) ≡ Ok h) × HasAllBut b m.head.fields.items field (relayed_text b m []) h.fields.items }
 {}
