@@ -43,13 +43,25 @@ fn text(alloc: Global, bytes: &str) -> Result<Part, AllocError> {
     Ok(Part::Text(Text::from_slice(alloc, bytes.as_bytes())?))
 }
 
-fn chain(alloc: Global, a: Expr, op: BinOp, b: Expr) -> Result<Expr, AllocError> {
+fn boxed(alloc: Global, e: Expr) -> Result<Boxed<Expr>, AllocError> {
+    Boxed::new(alloc, e)
+}
+
+/// Two operands of one level.
+fn chain(alloc: Global, a: Boxed<Expr>, op: BinOp, b: Expr) -> Result<Expr, AllocError> {
     let links = one(alloc, (op, b))?;
-    Ok(Expr::Chain(Boxed::new(alloc, a)?, links))
+    Ok(Expr::Chain(a, links))
+}
+
+/// `$var(0) OP N`
+fn compared(alloc: Global, op: BinOp, n: i64) -> Result<Expr, AllocError> {
+    let a = boxed(alloc, var(0))?;
+    chain(alloc, a, op, number(n))
 }
 
 fn not(alloc: Global, a: Expr) -> Result<Expr, AllocError> {
-    Ok(Expr::Not(Boxed::new(alloc, a)?))
+    let a = boxed(alloc, a)?;
+    Ok(Expr::Not(a))
 }
 
 /// A call without expanded arguments.
@@ -57,11 +69,11 @@ fn call(alloc: Global, function: Func) -> Expr {
     Expr::Call(function, Items::new(alloc))
 }
 
-/// A call with one text.
-fn call_with(alloc: Global, function: Func, argument: &str) -> Result<Expr, AllocError> {
+/// One argument: a text.
+fn text_argument(alloc: Global, argument: &str) -> Result<Items<Items<Part>>, AllocError> {
     let part = text(alloc, argument)?;
     let parts = one(alloc, part)?;
-    Ok(Expr::Call(function, one(alloc, parts)?))
+    one(alloc, parts)
 }
 
 fn method(alloc: Global, name: &str) -> Result<Expr, AllocError> {
@@ -135,13 +147,17 @@ const LOOP: [&str; 19] = [
     "EndBlock",
 ];
 
+fn counts_to(alloc: Global, n: i64) -> Result<Items<Stmt>, AllocError> {
+    let more = compared(alloc, BinOp::Add, 1)?;
+    let body = one(alloc, set(0, more))?;
+    let test = compared(alloc, BinOp::Lt, n)?;
+    two(alloc, set(0, number(0)), Stmt::While(test, body))
+}
+
 #[test]
 fn a_loop_counts_each_test(rt: HostRuntime) -> Result<(), Fail> {
     let alloc = rt.alloc();
-    let more = chain(alloc, var(0), BinOp::Add, number(1))?;
-    let body = one(alloc, set(0, more))?;
-    let test = chain(alloc, var(0), BinOp::Lt, number(100))?;
-    let block = two(alloc, set(0, number(0)), Stmt::While(test, body))?;
+    let block = counts_to(alloc, 100)?;
     let loaded = compiled(alloc, block)?;
     assert!(rt; reads(alloc, loaded.code.instrs(), &LOOP)?);
     assert_eq!(rt; loaded.code.entry(0), 1);
@@ -203,15 +219,30 @@ const OPERANDS: [&str; 19] = [
     "EndBlock",
 ];
 
+/// `if (9223372036854775807 + 1 == $null) $var(a) = 1;`
+fn sum_past_the_end(alloc: Global) -> Result<Stmt, AllocError> {
+    let greatest = boxed(alloc, number(9223372036854775807))?;
+    let sum = chain(alloc, greatest, BinOp::Add, number(1))?;
+    let sum = boxed(alloc, sum)?;
+    let then = one(alloc, set(0, number(1)))?;
+    let test = chain(alloc, sum, BinOp::Eq, host(PvUse::Null))?;
+    Ok(when(alloc, test, then))
+}
+
+/// `$var(a) = -7 mod 2;`
+fn rest_of_seven(alloc: Global) -> Result<Stmt, AllocError> {
+    let seven = boxed(alloc, number(7))?;
+    let negative = boxed(alloc, Expr::Negative(seven))?;
+    let rest = chain(alloc, negative, BinOp::Rem, number(2))?;
+    Ok(set(0, rest))
+}
+
 #[test]
 fn operands_come_from_left_to_right(rt: HostRuntime) -> Result<(), Fail> {
     let alloc = rt.alloc();
-    let sum = chain(alloc, number(9223372036854775807), BinOp::Add, number(1))?;
-    let test = chain(alloc, sum, BinOp::Eq, host(PvUse::Null))?;
-    let then = one(alloc, set(0, number(1)))?;
-    let least = Expr::Negative(Boxed::new(alloc, number(7))?);
-    let rest = chain(alloc, least, BinOp::Rem, number(2))?;
-    let block = two(alloc, when(alloc, test, then), set(0, rest))?;
+    let mut block = Items::new(alloc);
+    block.push(sum_past_the_end(alloc)?)?;
+    block.push(rest_of_seven(alloc)?)?;
     let loaded = compiled(alloc, block)?;
     assert!(rt; reads(alloc, loaded.code.instrs(), &OPERANDS)?);
     Ok(())
@@ -264,10 +295,11 @@ fn switched(alloc: Global) -> Result<Stmt, AllocError> {
 #[test]
 fn cases_fall_through_and_operands_are_passed(rt: HostRuntime) -> Result<(), Fail> {
     let alloc = rt.alloc();
-    let all = Expr::All(two(alloc, var(0), number(2))?);
-    let any = Expr::Any(two(alloc, all, number(3))?);
-    let switch = switched(alloc)?;
-    let block = two(alloc, switch, set(0, any))?;
+    let mut block = Items::new(alloc);
+    block.push(switched(alloc)?)?;
+    let all = two(alloc, var(0), number(2))?;
+    let any = two(alloc, Expr::All(all), number(3))?;
+    block.push(set(0, Expr::Any(any)))?;
     let loaded = compiled(alloc, block)?;
     assert!(rt; reads(alloc, loaded.code.instrs(), &CASES)?);
     Ok(())
@@ -372,11 +404,7 @@ fn item(alloc: Global, name: &str) -> Result<Items<Part>, AllocError> {
     one(alloc, Part::Item(TableUse::Item, 0, key))
 }
 
-fn set_item(alloc: Global, name: &str, value: PvUse) -> Result<Stmt, AllocError> {
-    let key = item_key(alloc, name)?;
-    Ok(Stmt::Set(Target::Item(TableUse::Item, 0, key), host(value)))
-}
-
+/// `t_continue("$sht(w=>i$ci)", "$sht(w=>l$ci)", "BACK");`
 fn resumed(alloc: Global) -> Result<Stmt, AllocError> {
     let index = item(alloc, "i")?;
     let label = item(alloc, "l")?;
@@ -384,6 +412,7 @@ fn resumed(alloc: Global) -> Result<Stmt, AllocError> {
     Ok(Stmt::Do(Expr::Call(Func::TContinue(1), arguments)))
 }
 
+/// `sl_send_reply("200", "$rc");`
 fn code_answered(alloc: Global) -> Result<Stmt, AllocError> {
     let code = one(alloc, Part::Code)?;
     let arguments = one(alloc, code)?;
@@ -391,36 +420,43 @@ fn code_answered(alloc: Global) -> Result<Stmt, AllocError> {
 }
 
 fn registers(alloc: Global) -> Result<Stmt, AllocError> {
-    let first = resumed(alloc)?;
-    let second = code_answered(alloc)?;
-    let mut then = two(alloc, first, second)?;
+    let mut then = Items::new(alloc);
+    then.push(resumed(alloc)?)?;
+    then.push(code_answered(alloc)?)?;
     then.push(Stmt::Exit)?;
     let test = method(alloc, "REGISTER")?;
     Ok(when(alloc, test, then))
 }
 
 fn waiting_request(alloc: Global) -> Result<Items<Stmt>, AllocError> {
-    let first = registers(alloc)?;
-    let suspends = Stmt::Do(call(alloc, Func::TSuspend));
-    let mut block = two(alloc, first, suspends)?;
-    block.push(set_item(alloc, "i", PvUse::IdIndex)?)?;
-    block.push(set_item(alloc, "l", PvUse::IdLabel)?)?;
+    let mut block = Items::new(alloc);
+    block.push(registers(alloc)?)?;
+    block.push(Stmt::Do(call(alloc, Func::TSuspend)))?;
+    let index = Target::Item(TableUse::Item, 0, item_key(alloc, "i")?);
+    block.push(Stmt::Set(index, host(PvUse::IdIndex)))?;
+    let label = Target::Item(TableUse::Item, 0, item_key(alloc, "l")?);
+    block.push(Stmt::Set(label, host(PvUse::IdLabel)))?;
     Ok(block)
 }
 
+fn waiting_back(alloc: Global) -> Result<Items<Stmt>, AllocError> {
+    let reason = text_argument(alloc, "OK")?;
+    one(alloc, Stmt::Do(Expr::Call(Func::TReply(200), reason)))
+}
+
 fn waiting_script(alloc: Global) -> Result<Script, AllocError> {
-    let request = waiting_request(alloc)?;
-    let reply = call_with(alloc, Func::TReply(200), "OK")?;
-    let back = one(alloc, Stmt::Do(reply))?;
-    let blocks = two(alloc, request, back)?;
-    let mut whole = script(alloc, blocks);
     let table = TableSpec {
         size: 8,
         autoexpire: 120,
         initval: None,
         update: false,
     };
-    whole.tables = one(alloc, table)?;
+    let tables = one(alloc, table)?;
+    let request = waiting_request(alloc)?;
+    let back = waiting_back(alloc)?;
+    let blocks = two(alloc, request, back)?;
+    let mut whole = script(alloc, blocks);
+    whole.tables = tables;
     Ok(whole)
 }
 
@@ -440,8 +476,9 @@ fn relay(alloc: Global) -> Stmt {
 
 /// `sl_send_reply(CODE, REASON); exit;`
 fn answered(alloc: Global, code: u16, reason: &str) -> Result<Items<Stmt>, AllocError> {
-    let reply = call_with(alloc, Func::SlSendReply(code), reason)?;
-    two(alloc, Stmt::Do(reply), Stmt::Exit)
+    let reason = text_argument(alloc, reason)?;
+    let reply = Stmt::Do(Expr::Call(Func::SlSendReply(code), reason));
+    two(alloc, reply, Stmt::Exit)
 }
 
 /// `if (t_check_trans()) t_relay(); exit;`
@@ -453,43 +490,54 @@ fn passed_on(alloc: Global) -> Result<Items<Stmt>, AllocError> {
 
 /// `if (is_method(NAME)) { if (t_check_trans()) t_relay(); exit; }`
 fn method_passed_on(alloc: Global, name: &str) -> Result<Stmt, AllocError> {
-    let test = method(alloc, name)?;
     let then = passed_on(alloc)?;
+    let test = method(alloc, name)?;
     Ok(when(alloc, test, then))
+}
+
+/// `if (loose_route()) { t_relay(); exit; }`
+fn loose(alloc: Global) -> Result<Stmt, AllocError> {
+    let then = two(alloc, relay(alloc), Stmt::Exit)?;
+    Ok(when(alloc, call(alloc, Func::LooseRoute), then))
 }
 
 /// `if (has_totag()) { .. }`: a request within a dialogue.
 fn inside(alloc: Global) -> Result<Stmt, AllocError> {
-    let routed = two(alloc, relay(alloc), Stmt::Exit)?;
-    let loose = when(alloc, call(alloc, Func::LooseRoute), routed);
-    let acks = method_passed_on(alloc, "ACK")?;
-    let mut then = two(alloc, loose, acks)?;
+    let mut then = Items::new(alloc);
+    then.push(loose(alloc)?)?;
+    then.push(method_passed_on(alloc, "ACK")?)?;
     then.append(answered(alloc, 404, "Not here")?)?;
     Ok(when(alloc, call(alloc, Func::HasTotag), then))
 }
 
 /// `if (is_method("INVITE")) { record_route(); t_on_failure("VM"); }`
 fn invites(alloc: Global) -> Result<Stmt, AllocError> {
-    let records = Stmt::Do(call(alloc, Func::RecordRoute));
-    let arms = Stmt::Do(call(alloc, Func::TOnFailure(1)));
-    let then = two(alloc, records, arms)?;
+    let mut then = Items::new(alloc);
+    then.push(Stmt::Do(call(alloc, Func::RecordRoute)))?;
+    then.push(Stmt::Do(call(alloc, Func::TOnFailure(1))))?;
     let test = method(alloc, "INVITE")?;
     Ok(when(alloc, test, then))
 }
 
 /// `if (!t_relay()) sl_send_reply("500", "Relay error");`
 fn relays(alloc: Global) -> Result<Stmt, AllocError> {
+    let reason = text_argument(alloc, "Relay error")?;
+    let then = one(alloc, Stmt::Do(Expr::Call(Func::SlSendReply(500), reason)))?;
     let test = not(alloc, call(alloc, Func::TRelay))?;
-    let reply = call_with(alloc, Func::SlSendReply(500), "Relay error")?;
-    let then = one(alloc, Stmt::Do(reply))?;
+    Ok(when(alloc, test, then))
+}
+
+/// `if (!mf_process_maxfwd_header("10")) { sl_send_reply("483", "Too Many Hops"); exit; }`
+fn hops(alloc: Global) -> Result<Stmt, AllocError> {
+    let then = answered(alloc, 483, "Too Many Hops")?;
+    let test = not(alloc, call(alloc, Func::MfProcessMaxfwdHeader(10)))?;
     Ok(when(alloc, test, then))
 }
 
 /// `request_route` of the usual script.
 fn usual_request(alloc: Global) -> Result<Items<Stmt>, AllocError> {
-    let test = not(alloc, call(alloc, Func::MfProcessMaxfwdHeader(10)))?;
-    let then = answered(alloc, 483, "Too Many Hops")?;
-    let mut block = one(alloc, when(alloc, test, then))?;
+    let mut block = Items::new(alloc);
+    block.push(hops(alloc)?)?;
     block.push(method_passed_on(alloc, "CANCEL")?)?;
     block.push(inside(alloc)?)?;
     block.push(invites(alloc)?)?;
@@ -497,26 +545,44 @@ fn usual_request(alloc: Global) -> Result<Items<Stmt>, AllocError> {
     Ok(block)
 }
 
+/// `if (t_is_canceled()) exit;`
+fn canceled(alloc: Global) -> Result<Stmt, AllocError> {
+    let then = one(alloc, Stmt::Exit)?;
+    Ok(when(alloc, call(alloc, Func::TIsCanceled), then))
+}
+
+/// `if (t_check_status("486|408")) { $du = "sip:192.0.2.8"; t_relay(); }`
+fn busy(alloc: Global) -> Result<Stmt, AllocError> {
+    let to = Text::from_slice(alloc, b"sip:192.0.2.8")?;
+    let sets = Stmt::Set(Target::Host(PvUse::DestinationUri), Expr::Text(to));
+    let then = two(alloc, sets, relay(alloc))?;
+    Ok(when(alloc, call(alloc, Func::TCheckStatus(0)), then))
+}
+
 /// `failure_route[VM]` of the usual script.
 fn usual_failure(alloc: Global) -> Result<Items<Stmt>, AllocError> {
-    let exit = one(alloc, Stmt::Exit)?;
-    let canceled = when(alloc, call(alloc, Func::TIsCanceled), exit);
-    let to = Expr::Text(Text::from_slice(alloc, b"sip:192.0.2.8")?);
-    let sets = Stmt::Set(Target::Host(PvUse::DestinationUri), to);
-    let then = two(alloc, sets, relay(alloc))?;
-    let busy = when(alloc, call(alloc, Func::TCheckStatus(0)), then);
-    two(alloc, canceled, busy)
+    let mut block = Items::new(alloc);
+    block.push(canceled(alloc)?)?;
+    block.push(busy(alloc)?)?;
+    Ok(block)
+}
+
+fn usual_patterns(alloc: Global) -> Result<Patterns, Fail> {
+    let Ok(pattern) = Pattern::new(alloc, b"486|408") else {
+        return Err("no pattern".into());
+    };
+    let mut list = Vec::new(alloc);
+    list.push(pattern)?;
+    Ok(Patterns::of(list))
 }
 
 fn usual_script(alloc: Global) -> Result<Script, Fail> {
+    let patterns = usual_patterns(alloc)?;
     let request = usual_request(alloc)?;
     let failure = usual_failure(alloc)?;
     let blocks = two(alloc, request, failure)?;
     let mut whole = script(alloc, blocks);
-    let Ok(pattern) = Pattern::new(alloc, b"486|408") else {
-        return Err("no pattern".into());
-    };
-    whole.patterns = Patterns::of(vec![in alloc; pattern]?);
+    whole.patterns = patterns;
     Ok(whole)
 }
 

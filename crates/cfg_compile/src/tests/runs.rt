@@ -1,12 +1,15 @@
 // Runs of scripts, from their trees to how they end, worked out by hand.
 
-use super::{call, chain, compiled, host, not, number, one, script, set, two, var, when};
+use super::{
+    call, compared, compiled, counts_to, not, number, one, rest_of_seven, script, set,
+    sum_past_the_end, two, var, when,
+};
 use crate::compile;
 use cfg_code::Loaded;
 use cfg_tree::{Expr, Stmt};
 use pv_values::{BinOp, Env, Func, HostAnswer, HostAsk, How, PvUse, Val, Vals};
 use script_vm::{Played, play};
-use sqlite_items::{Boxed, Items};
+use sqlite_items::Items;
 use std::alloc::{AllocError, Global};
 use std::test::Fail;
 
@@ -15,6 +18,12 @@ fn played(alloc: Global, loaded: &Loaded, answers: &[HostAnswer]) -> Result<Play
     let mut vars = Vals::new(alloc);
     vars.push(Val::Int(0))?;
     Ok(play(alloc, loaded, 0, Env { vars, rc: 0 }, answers))
+}
+
+/// The same with one answer.
+fn played_with(alloc: Global, loaded: &Loaded, answer: HostAnswer) -> Result<Played, AllocError> {
+    let answers = [answer];
+    played(alloc, loaded, &answers)
 }
 
 /// It ended so after so many answers, with this variable.
@@ -27,14 +36,6 @@ fn ended(played: Played, wanted: How, count: usize, n: i64) -> bool {
         }
         _ => false,
     }
-}
-
-/// `$var(i) = 0; while ($var(i) < N) { $var(i) = $var(i) + 1; }`
-fn counts_to(alloc: Global, n: i64) -> Result<Items<Stmt>, AllocError> {
-    let more = chain(alloc, var(0), BinOp::Add, number(1))?;
-    let body = one(alloc, set(0, more))?;
-    let test = chain(alloc, var(0), BinOp::Lt, number(n))?;
-    two(alloc, set(0, number(0)), Stmt::While(test, body))
 }
 
 #[test]
@@ -60,12 +61,18 @@ fn a_route_of_code_0_ends_the_run(rt: HostRuntime) -> Result<(), Fail> {
 }
 
 /// `route(D);` with `route[D] { $var(d) = $var(d) + 1; if ($var(d) < N) route(D); }`
+fn nested(alloc: Global, n: i64) -> Result<Items<Stmt>, AllocError> {
+    let mut block = Items::new(alloc);
+    block.push(set(0, compared(alloc, BinOp::Add, 1)?))?;
+    let then = one(alloc, Stmt::Do(Expr::Route(1)))?;
+    let test = compared(alloc, BinOp::Lt, n)?;
+    block.push(when(alloc, test, then))?;
+    Ok(block)
+}
+
 fn nests(alloc: Global, n: i64) -> Result<Loaded, AllocError> {
     let first = one(alloc, Stmt::Do(Expr::Route(1)))?;
-    let more = chain(alloc, var(0), BinOp::Add, number(1))?;
-    let test = chain(alloc, var(0), BinOp::Lt, number(n))?;
-    let then = one(alloc, Stmt::Do(Expr::Route(1)))?;
-    let second = two(alloc, set(0, more), when(alloc, test, then))?;
+    let second = nested(alloc, n)?;
     let blocks = two(alloc, first, second)?;
     compile(alloc, script(alloc, blocks))
 }
@@ -89,15 +96,19 @@ fn idles(alloc: Global, count: u32) -> Result<Items<Stmt>, AllocError> {
     Ok(list)
 }
 
-/// `$var(i) = 0; while ($var(i) < 1000) { .. }`, where a round has 98 statements and a loop may make
-/// 1,000 rounds, and then so many more.
-fn long_run(alloc: Global, last: u32) -> Result<Loaded, AllocError> {
+/// `$var(i) = 0; while ($var(i) < 1000) { .. }`, where a round has 98 statements, and then so many more.
+fn long_block(alloc: Global, last: u32) -> Result<Items<Stmt>, AllocError> {
     let mut body = idles(alloc, 97)?;
-    let more = chain(alloc, var(0), BinOp::Add, number(1))?;
-    body.push(set(0, more))?;
-    let test = chain(alloc, var(0), BinOp::Lt, number(1000))?;
+    body.push(set(0, compared(alloc, BinOp::Add, 1)?))?;
+    let test = compared(alloc, BinOp::Lt, 1000)?;
     let mut block = two(alloc, set(0, number(0)), Stmt::While(test, body))?;
     block.append(idles(alloc, last)?)?;
+    Ok(block)
+}
+
+/// The same, where a loop may make 1,000 rounds.
+fn long_run(alloc: Global, last: u32) -> Result<Loaded, AllocError> {
+    let block = long_block(alloc, last)?;
     let blocks = one(alloc, block)?;
     let mut whole = script(alloc, blocks);
     whole.parameters.max_while_loops = 1000;
@@ -115,65 +126,47 @@ fn a_run_begins_100000_statements(rt: HostRuntime) -> Result<(), Fail> {
     Ok(())
 }
 
-/// `if (9223372036854775807 + 1 == $null) $var(a) = 1;`
+fn needs_null(played: Played) -> bool {
+    matches!(played, Played::Needs(HostAsk::Read(PvUse::Null)))
+}
+
 #[test]
 fn a_sum_past_64_bits_is_null(rt: HostRuntime) -> Result<(), Fail> {
     let alloc = rt.alloc();
-    let sum = chain(alloc, number(9223372036854775807), BinOp::Add, number(1))?;
-    let test = chain(alloc, sum, BinOp::Eq, host(PvUse::Null))?;
-    let then = one(alloc, set(0, number(1)))?;
-    let block = one(alloc, when(alloc, test, then))?;
+    let block = one(alloc, sum_past_the_end(alloc)?)?;
     let loaded = compiled(alloc, block)?;
-    let asks = played(alloc, &loaded, &[])?;
-    assert!(rt; matches!(asks, Played::Needs(HostAsk::Read(PvUse::Null))));
-    let null = [HostAnswer::Value(Val::Null)];
-    assert!(rt; ended(played(alloc, &loaded, &null)?, How::Normal, 1, 1));
+    assert!(rt; needs_null(played(alloc, &loaded, &[])?));
+    let null = played_with(alloc, &loaded, HostAnswer::Value(Val::Null))?;
+    assert!(rt; ended(null, How::Normal, 1, 1));
     Ok(())
 }
 
-/// `$var(a) = -7 mod 2;`
 #[test]
 fn a_rest_has_the_left_ones_sign(rt: HostRuntime) -> Result<(), Fail> {
     let alloc = rt.alloc();
-    let least = Expr::Negative(Boxed::new(alloc, number(7))?);
-    let rest = chain(alloc, least, BinOp::Rem, number(2))?;
-    let block = one(alloc, set(0, rest))?;
+    let block = one(alloc, rest_of_seven(alloc)?)?;
     let loaded = compiled(alloc, block)?;
     assert!(rt; ended(played(alloc, &loaded, &[])?, How::Normal, 0, -1));
     Ok(())
 }
 
-/// `if (!t_relay()) $var(a) = 5;`: the code -2 is false, and 0 ends the run.
+/// `if (!t_relay()) $var(a) = 5;`
+fn relays_or_not(alloc: Global) -> Result<Items<Stmt>, AllocError> {
+    let then = one(alloc, set(0, number(5)))?;
+    let test = not(alloc, call(alloc, Func::TRelay))?;
+    one(alloc, when(alloc, test, then))
+}
+
+/// The code -2 is false, and 0 ends the run.
 #[test]
 fn a_call_is_true_above_0(rt: HostRuntime) -> Result<(), Fail> {
     let alloc = rt.alloc();
-    let test = not(alloc, call(alloc, Func::TRelay))?;
-    let then = one(alloc, set(0, number(5)))?;
-    let block = one(alloc, when(alloc, test, then))?;
-    let loaded = compiled(alloc, block)?;
-    assert!(rt;
-        ended(
-            played(alloc, &loaded, &[HostAnswer::Code(1)])?,
-            How::Normal,
-            1,
-            0
-        )
-    );
-    assert!(rt;
-        ended(
-            played(alloc, &loaded, &[HostAnswer::Code(-2)])?,
-            How::Normal,
-            1,
-            5
-        )
-    );
-    assert!(rt;
-        ended(
-            played(alloc, &loaded, &[HostAnswer::Code(0)])?,
-            How::Exit,
-            1,
-            0
-        )
-    );
+    let loaded = compiled(alloc, relays_or_not(alloc)?)?;
+    let one = played_with(alloc, &loaded, HostAnswer::Code(1))?;
+    assert!(rt; ended(one, How::Normal, 1, 0));
+    let less = played_with(alloc, &loaded, HostAnswer::Code(-2))?;
+    assert!(rt; ended(less, How::Normal, 1, 5));
+    let none = played_with(alloc, &loaded, HostAnswer::Code(0))?;
+    assert!(rt; ended(none, How::Exit, 1, 0));
     Ok(())
 }
