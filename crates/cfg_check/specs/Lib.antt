@@ -1,3 +1,6 @@
 pub mod Answer
 pub mod Kinds
+pub mod Names
 pub mod Following
+pub mod Lookups
+pub mod Layers

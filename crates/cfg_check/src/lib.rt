@@ -10,7 +10,14 @@ ghost use Rattle.cfg_tree.specs.declared.script.Script.{Script};
 ghost use Rattle.cfg_tree.specs.Checks.{IsAccepted, IsRefused};
 ghost use Rattle.cfg_check.specs.Answer.{IsRefusalOf, GivesScript, GivesRefusal};
 
+mod checker;
+mod host;
+mod joins;
+mod known;
+mod name;
+mod names;
 mod refusal;
+mod variable;
 
 use cfg_tree::{RawScript, Script};
 use pv_values::ScriptFault;
