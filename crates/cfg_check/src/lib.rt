@@ -10,6 +10,7 @@ ghost use Rattle.cfg_tree.specs.declared.script.Script.{Script};
 ghost use Rattle.cfg_tree.specs.Checks.{IsAccepted, IsRefused};
 ghost use Rattle.cfg_check.specs.Answer.{IsRefusalOf, GivesScript, GivesRefusal};
 
+mod name;
 mod refusal;
 
 use cfg_tree::{RawScript, Script};
