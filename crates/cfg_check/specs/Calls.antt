@@ -1,8 +1,10 @@
 -- The functions of the language, by the forms of their arguments.
-use Rattle.std.specs.Prelude.{ℕ, List, [], ◌∷◌, take, drop, codes}
+use Rattle.std.specs.Prelude.{ℕ, List, [], ◌∷◌, take, drop, Option, None, Some, codes}
 use Rattle.pv_values.specs.declared.block.BlockKind.TheVariants.{Branch, Failure, Reply}
 use Rattle.pv_values.specs.declared.function.Func.{Func}
 use Rattle.pv_values.specs.declared.function.Func.TheVariants as func
+use Rattle.cfg_tree.specs.declared.raw.Word.{Word}
+use Rattle.cfg_tree.specs.declared.raw.RawArg.{RawArg}
 use Rattle.cfg_tree.specs.declared.raw.RouteKind.{RouteKind}
 use Rattle.cfg_tree.specs.declared.raw.RouteKind.TheVariants.{Begins}
 use Rattle.cfg_tree.specs.Functions as functions
@@ -80,6 +82,14 @@ form function.MfProcessMaxfwdHeader = functions.counting func.MfProcessMaxfwdHea
 form function.Xlog = functions.logging func.Xlog
 form function.ShtRmNameRe = functions.taking_table_pattern func.ShtRmNameRe
 form function.ShtReset = functions.taking_table func.ShtReset
+
+-- the one argument, where there is one and it is a literal
+abbrev pub literal_in : Option RawArg → Option Word
+literal_in None = None
+literal_in (Some a) = functions.literal a
+
+abbrev pub only_literal : List RawArg → Option Word
+only_literal args = literal_in (functions.one_arg args)
 
 -- by their names, in the order of the language's table
 abbrev pub rows : List (List ℕ × Function)

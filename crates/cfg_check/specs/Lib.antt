@@ -4,3 +4,4 @@ pub mod Names
 pub mod Following
 pub mod Lookups
 pub mod Layers
+pub mod Calls

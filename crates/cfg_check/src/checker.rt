@@ -1,6 +1,6 @@
 // What is kept while a script is checked.
 
-ghost use Rattle.std.specs.Prelude.{◌≡◌, ◌<◌, ◌^◌, ◌++◌, ◌∷◌, [], Some, IfOk};
+ghost use Rattle.std.specs.Prelude.{◌≡◌, ◌<◌, ◌^◌, ◌++◌, ◌∷◌, [], Some, IfOk, OnOk};
 ghost use Rattle.cfg_tree.specs.Checks as checks;
 ghost use Rattle.cfg_tree.specs.Names as names;
 ghost use Rattle.cfg_tree.specs.Functions as functions;
@@ -8,7 +8,7 @@ ghost use Rattle.cfg_tree.specs.Refusals.{refused};
 ghost use Rattle.cfg_check.specs.Kinds.{number_of};
 ghost use Rattle.cfg_check.specs.Following.{State, Follows, Counts};
 
-use crate::names::Names;
+use crate::vars::Names;
 use crate::refusal::{Kind, Refusal};
 use pv_values::{Pattern, PatternFault, Place};
 use sqlite_items::Items;
@@ -65,6 +65,14 @@ impl Checker {
 
     pub fn alloc(&self) -> Global {
         self.alloc
+    }
+
+    /// Notes a refusal beside what is read.
+    pub fn note(&mut self, kind: Kind, at: Place) -> Result<(), NoMemory>
+        ensures seen { OnOk result (self.new.seen ≡ self.old.seen) }
+        ensures refusals { OnOk result (self.new.refusals ≡ self.old.refusals ++ (record { kind = number_of kind; at = at }) ∷ []) }
+    {
+        self.refusals.push(Refusal::new(kind, at))
     }
 
     /// Refuses what stands here: there is no value.

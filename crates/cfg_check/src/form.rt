@@ -1,6 +1,6 @@
 // Calls of functions: each form of arguments.
 
-ghost use Rattle.std.specs.Prelude.{◌≡◌, ◌∷◌, [], ℕ, List, IfOk, Some, option_map};
+ghost use Rattle.std.specs.Prelude.{◌≡◌, ◌∷◌, [], ℕ, List, IfOk, Some, option_map, option_copied};
 ghost use Rattle.std.specs.List.{list_any};
 ghost use Rattle.std.specs.Str.{str_eq_ignore_ascii_case};
 ghost use Rattle.pv_values.specs.declared.function.Func.TheVariants as func;
@@ -9,7 +9,7 @@ ghost use Rattle.cfg_tree.specs.Functions as functions;
 ghost use Rattle.cfg_tree.specs.Functions.{FuncWith, needed_fields};
 ghost use Rattle.cfg_tree.specs.Refusals.{join, from_some, both, one};
 ghost use Rattle.cfg_check.specs.Following.{Follows};
-ghost use Rattle.cfg_check.specs.Calls.{form, func_with_code, func_with_block, func_with_text, armed_kind};
+ghost use Rattle.cfg_check.specs.Calls.{form, func_with_code, func_with_block, func_with_text, armed_kind, only_literal};
 
 use crate::argument::{literal, number_argument};
 use crate::checker::Checker;
@@ -65,6 +65,30 @@ fn two(
             Ok(Some(both))
         }
         _ => Ok(None),
+    }
+}
+
+/// The call that continues a suspended request in a block.
+fn continuation(arguments: Option<Items<Items<Part>>>, block: Option<u32>) -> Option<Call>
+    ensures { result ≡ join (λ ps b. (func.TContinue b, ps)) arguments block }
+{
+    Some((Func::TContinue(block?), arguments?))
+}
+
+/// The function that removes items of a table by their names.
+fn removal(table: Option<u32>, pattern: Option<u32>) -> Option<Func>
+    ensures { result ≡ join func.ShtRmNameRe table pattern }
+{
+    Some(Func::ShtRmNameRe(table?, pattern?))
+}
+
+/// The one argument, where there is one and it is a literal.
+fn only_literal(args: &[RawArg]) -> Option<&Word>
+    ensures { option_copied result ≡ only_literal args.now }
+{
+    match args {
+        [arg] => literal(arg),
+        _ => None,
     }
 }
 
@@ -194,15 +218,184 @@ impl Checker {
         }
     }
 
-    /// The one argument, where it is a literal.
-    fn one_literal<'a>(
+    /// `("literal")`: a method, or the name of a field
+    fn testing(
         &mut self,
+        test: Test,
         at: Place,
-        args: &'a [RawArg],
-    ) -> Result<Option<&'a Word>, NoMemory> {
-        match args {
-            [RawArg::String(word)] => Ok(Some(word)),
-            _ => self.refuse(Kind::WrongArguments, at),
+        args: &[RawArg],
+    ) -> Result<Option<Call>, NoMemory>
+        ensures { (known : _) → IfOk result (λ v. Follows (functions.taking_text (func_with_text test) known at args.now) self.old v self.new) }
+    {
+        let Some(word) = only_literal(args) else {
+            return self.refuse(Kind::WrongArguments, at);
+        };
+        let func = test.func(word.text.copy(self.alloc())?);
+        Ok(bare_call(self.alloc(), Some(func)))
+    }
+
+    /// `("name")`, but of a field that a message needs
+    fn removing(&mut self, at: Place, args: &[RawArg]) -> Result<Option<Call>, NoMemory>
+        ensures { (known : _) → IfOk result (λ v. Follows (functions.taking_removable func.RemoveHf known at args.now) self.old v self.new) }
+    {
+        let Some(word) = only_literal(args) else {
+            return self.refuse(Kind::WrongArguments, at);
+        };
+        if is_needed(word.text.bytes()) {
+            return self.refuse(Kind::WrongArguments, at);
         }
+        let func = Func::RemoveHf(word.text.copy(self.alloc())?);
+        Ok(bare_call(self.alloc(), Some(func)))
+    }
+
+    /// `("block")`
+    fn arming(
+        &mut self,
+        known: &Known,
+        armed: Armed,
+        at: Place,
+        args: &[RawArg],
+    ) -> Result<Option<Call>, NoMemory>
+        ensures { IfOk result (λ v. Follows (functions.taking_block (armed_kind armed) (func_with_block armed) known.now at args.now) self.old v self.new) }
+    {
+        let Some(word) = only_literal(args) else {
+            return self.refuse(Kind::WrongArguments, at);
+        };
+        let block = self.block_number(known, armed.kind(), word)?;
+        let func = block.map(|block| armed.func(block));
+        Ok(bare_call(self.alloc(), func))
+    }
+
+    /// `("re")`
+    fn matching(&mut self, at: Place, args: &[RawArg]) -> Result<Option<Call>, NoMemory>
+        ensures { (known : _) → IfOk result (λ v. Follows (functions.taking_pattern func.TCheckStatus known at args.now) self.old v self.new) }
+    {
+        let Some(word) = only_literal(args) else {
+            return self.refuse(Kind::WrongArguments, at);
+        };
+        let pattern = self.pattern_number(word.at, word.text.bytes())?;
+        let func = pattern.map(Func::TCheckStatus);
+        Ok(bare_call(self.alloc(), func))
+    }
+
+    /// `("table")`
+    fn resetting(
+        &mut self,
+        known: &Known,
+        at: Place,
+        args: &[RawArg],
+    ) -> Result<Option<Call>, NoMemory>
+        ensures { IfOk result (λ v. Follows (functions.taking_table func.ShtReset known.now at args.now) self.old v self.new) }
+    {
+        let Some(word) = only_literal(args) else {
+            return self.refuse(Kind::WrongArguments, at);
+        };
+        let table = self.table_number(known, word.at, word.text.bytes())?;
+        let func = table.map(Func::ShtReset);
+        Ok(bare_call(self.alloc(), func))
+    }
+
+    /// `("table=>re")`
+    fn removing_items(
+        &mut self,
+        known: &Known,
+        at: Place,
+        args: &[RawArg],
+    ) -> Result<Option<Call>, NoMemory>
+        ensures { IfOk result (λ v. Follows (functions.taking_table_pattern func.ShtRmNameRe known.now at args.now) self.old v self.new) }
+    {
+        let Some(word) = only_literal(args) else {
+            return self.refuse(Kind::WrongArguments, at);
+        };
+        let Some((table, pattern)) = table_and_key(word.text.bytes()) else {
+            return self.refuse(Kind::WrongArguments, at);
+        };
+        let table = self.table_number(known, word.at, table)?;
+        let pattern = self.pattern_number(word.at, pattern)?;
+        Ok(bare_call(self.alloc(), removal(table, pattern)))
+    }
+
+    /// `(x, x, "route")`
+    fn continuing(
+        &mut self,
+        known: &Known,
+        at: Place,
+        args: &[RawArg],
+    ) -> Result<Option<Call>, NoMemory>
+        ensures { IfOk result (λ v. Follows (functions.continuing func.TContinue known.now at args.now) self.old v self.new) }
+    {
+        let [index, label, RawArg::String(route)] = args else {
+            return self.refuse(Kind::WrongArguments, at);
+        };
+        let index = self.expanded(known, index)?;
+        let label = self.expanded(known, label)?;
+        let arguments = two(self.alloc(), index, label)?;
+        let block = self.block_number(known, RouteKind::Route, route)?;
+        Ok(continuation(arguments, block))
+    }
+
+    /// `([level,] x)`: the level is a string, which isn't looked at
+    fn logging(
+        &mut self,
+        known: &Known,
+        at: Place,
+        args: &[RawArg],
+    ) -> Result<Option<Call>, NoMemory>
+        ensures { IfOk result (λ v. Follows (functions.logging func.Xlog known.now at args.now) self.old v self.new) }
+    {
+        match args {
+            [RawArg::String(_), _, ..] => self.expanding(known, Func::Xlog, at, &args[1..]),
+            [_, _, ..] => self.refuse(Kind::WrongArguments, at),
+            _ => self.expanding(known, Func::Xlog, at, args),
+        }
+    }
+
+    /// A function with its arguments, by its form.
+    fn with_arguments(
+        &mut self,
+        known: &Known,
+        function: Function,
+        at: Place,
+        args: &[RawArg],
+    ) -> Result<Option<Call>, NoMemory>
+        ensures { IfOk result (λ v. Follows (form function known.now at args.now) self.old v self.new) }
+    {
+        match function {
+            Function::Plain(f) => self.plain(f.func(), at, args),
+            Function::Replying(reply) => self.replying(known, reply, at, args),
+            Function::Arming(armed) => self.arming(known, armed, at, args),
+            Function::Testing(test) => self.testing(test, at, args),
+            Function::AppendBranch => self.expanding_maybe(known, Func::AppendBranch, at, args),
+            Function::TSetFr => self.expanding_two(known, Func::TSetFr, at, args),
+            Function::TCheckStatus => self.matching(at, args),
+            Function::TContinue => self.continuing(known, at, args),
+            Function::RemoveHf => self.removing(at, args),
+            Function::AppendHf => self.expanding(known, Func::AppendHf, at, args),
+            Function::MfProcessMaxfwdHeader => self.counting(at, args),
+            Function::Xlog => self.logging(known, at, args),
+            Function::ShtRmNameRe => self.removing_items(known, at, args),
+            Function::ShtReset => self.resetting(known, at, args),
+        }
+    }
+
+    /// A call of a function, in a block of this kind.
+    pub fn function_call(
+        &mut self,
+        known: &Known,
+        kind: RouteKind,
+        word: &Word,
+        args: &[RawArg],
+    ) -> Result<Option<Call>, NoMemory>
+        ensures { IfOk result (λ v. Follows (functions.function_call known.now kind word.now args.now) self.old v self.new) }
+    {
+        let Some(function) = Function::named(word.text.bytes()) else {
+            return self.refuse(Kind::UnknownFunction, word.at);
+        };
+        if function.may_stand(self.alloc(), kind) {
+            return self.with_arguments(known, function, word.at, args);
+        }
+        self.note(Kind::WrongBlock, word.at)?;
+        self.with_arguments(known, function, word.at, args)?;
+        Ok(None)
     }
 }

@@ -10,12 +10,15 @@ ghost use Rattle.cfg_tree.specs.declared.script.Script.{Script};
 ghost use Rattle.cfg_tree.specs.Checks.{IsAccepted, IsRefused};
 ghost use Rattle.cfg_check.specs.Answer.{IsRefusalOf, GivesScript, GivesRefusal};
 
+mod argument;
 mod checker;
+mod form;
+mod function;
 mod host;
 mod joins;
 mod known;
 mod name;
-mod names;
+mod vars;
 mod refusal;
 mod variable;
 
