@@ -1,5 +1,5 @@
 -- What a part of the checking leaves: it follows a check, from what was met and refused before it.
-use Rattle.std.specs.Prelude.{◌≡◌, ◌+◌, Bool, not, nat_le, List, [], ◌∷◌, ◌++◌, Option, if◌then◌else◌}
+use Rattle.std.specs.Prelude.{◌≡◌, ◌+◌, Bool, true, false, not, nat_le, List, [], ◌∷◌, ◌++◌, Option, None, if◌then◌else◌}
 use Rattle.pv_values.specs.declared.refusal.Place.{Place}
 use Rattle.cfg_tree.specs.Refusals.{Refusal, Seen, Checked}
 
@@ -20,3 +20,8 @@ Counts at old within new =
     (within ≡ not (nat_le 50000 old.seen.statements))
     × (new.seen ≡ record old.seen { statements = old.seen.statements + 1 })
     × (new.refusals ≡ old.refusals ++ (if within then [] else (record { kind = 13; at = at }) ∷ []))
+
+-- a value that isn't there where it is one too many
+abbrev pub within_limit : {A : Type 0} → Bool → Option A → Option A
+within_limit true value = value
+within_limit false value = None

@@ -5,3 +5,4 @@ pub mod Following
 pub mod Lookups
 pub mod Layers
 pub mod Calls
+pub mod Reading

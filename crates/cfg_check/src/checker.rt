@@ -1,6 +1,6 @@
 // What is kept while a script is checked.
 
-ghost use Rattle.std.specs.Prelude.{◌≡◌, ◌<◌, ◌^◌, ◌++◌, ◌∷◌, [], Some, IfOk, OnOk};
+ghost use Rattle.std.specs.Prelude.{◌≡◌, ◌<◌, ◌^◌, ◌++◌, ◌∷◌, [], length, Some, IfOk, OnOk};
 ghost use Rattle.cfg_tree.specs.Checks as checks;
 ghost use Rattle.cfg_tree.specs.Names as names;
 ghost use Rattle.cfg_tree.specs.Functions as functions;
@@ -10,7 +10,7 @@ ghost use Rattle.cfg_check.specs.Following.{State, Follows, Counts};
 
 use crate::vars::Names;
 use crate::refusal::{Kind, Refusal};
-use pv_values::{Pattern, PatternFault, Place};
+use pv_values::{Pattern, PatternFault, Patterns, Place};
 use sqlite_items::Items;
 use std::alloc::{AllocError as NoMemory, Global};
 use std::marker::Model;
@@ -27,7 +27,7 @@ pub struct Checker {
     alloc: Global,
     refusals: Items<Refusal>,
     statements: usize,
-    patterns: Items<Pattern>,
+    patterns: Vec<Pattern>,
     vars: Names,
 }
 
@@ -38,7 +38,7 @@ impl Model for Checker {
 
     ghost view = { λ c. record {
       refusals = c.refusals;
-      seen = record { statements = c.statements; patterns = c.patterns; vars = c.vars };
+      seen = record { statements = c.statements; patterns = c.patterns.items; vars = c.vars };
     } };
 }
 
@@ -58,9 +58,19 @@ impl Checker {
             alloc,
             refusals,
             statements: 0,
-            patterns: Items::new(alloc),
+            patterns: Vec::new(alloc),
             vars: Names::new(alloc),
         }
+    }
+
+    /// The refusals, the number of names of `$var`, and the patterns.
+    pub fn into_parts(self) -> Result<(Items<Refusal>, u32, Patterns), NoMemory>
+        ensures refusals { IfOk result (λ parts. parts.0 ≡ self.refusals) }
+        ensures vars { IfOk result (λ parts. parts.1 ≡ length self.seen.vars) }
+        ensures patterns { IfOk result (λ parts. parts.2 ≡ self.seen.patterns) }
+    {
+        let vars = number(self.vars.len())?;
+        Ok((self.refusals, vars, Patterns::of(self.patterns)))
     }
 
     pub fn alloc(&self) -> Global {

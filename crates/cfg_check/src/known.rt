@@ -25,7 +25,7 @@ impl Model for Known {
 }
 
 /// The two blocks have one kind.
-fn is_same_kind(a: RouteKind, b: RouteKind) -> bool
+pub fn is_same_kind(a: RouteKind, b: RouteKind) -> bool
     ensures { result ≡ (functions.kind_number a == functions.kind_number b) }
 {
     a == b
