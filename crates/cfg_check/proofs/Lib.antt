@@ -1,1 +1,5 @@
-pub mod Names
+mod Endings
+mod Names
+mod Paths
+mod Semicolons
+mod Standing

@@ -1,3 +1,4 @@
 pub mod Answer
 pub mod Kinds
 pub mod Following
+pub mod Parts

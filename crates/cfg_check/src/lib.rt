@@ -10,8 +10,13 @@ ghost use Rattle.cfg_tree.specs.declared.script.Script.{Script};
 ghost use Rattle.cfg_tree.specs.Checks.{IsAccepted, IsRefused};
 ghost use Rattle.cfg_check.specs.Answer.{IsRefusalOf, GivesScript, GivesRefusal};
 
+mod bytes;
+mod limit;
+mod module;
 mod name;
 mod refusal;
+mod setting;
+mod table;
 
 use cfg_tree::{RawScript, Script};
 use pv_values::ScriptFault;
