@@ -1,5 +1,5 @@
 -- A text cut at its semicolons, part by part.
-use Rattle.std.proofs.Common.{◌≡◌, ℕ, suc, ◌+◌, true, false, ◌==◌, List, [], ◌∷◌, length, take, drop, Option, Some, None, refl, ◌∙◌, ap, sym, inl, inr, arith}
+use Rattle.std.proofs.Common.{◌≡◌, ℕ, suc, ◌+◌, false, ◌==◌, List, [], ◌∷◌, length, take, drop, Option, Some, None, refl, ◌∙◌, ap, sym, inl, inr, arith}
 use Rattle.std.proofs.lemmas.Bool.{cases_Bool, false≢true}
 use Rattle.cfg_tree.specs.Variables.{before}
 use Rattle.cfg_tree.specs.Settings.{TableParts, at_semicolons, without_empty_end, with_part, with_parts}

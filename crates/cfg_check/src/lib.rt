@@ -11,6 +11,7 @@ ghost use Rattle.cfg_tree.specs.Checks.{IsAccepted, IsRefused};
 ghost use Rattle.cfg_check.specs.Answer.{IsRefusalOf, GivesScript, GivesRefusal};
 
 mod bytes;
+mod item;
 mod limit;
 mod module;
 mod name;

@@ -1,6 +1,6 @@
 // What a script sets: its parameters and its tables.
 
-ghost use Rattle.std.specs.Prelude.{◌≡◌, ◌++◌, [], ◌∷◌, map, Some, option_map, OnOk, IfOk, if◌then◌else◌};
+ghost use Rattle.std.specs.Prelude.{◌≡◌, ◌++◌, [], ◌∷◌, length, map, Some, option_map, OnOk, IfOk, if◌then◌else◌};
 ghost use Rattle.std.specs.Str.{bytes_eq};
 ghost use Rattle.std.specs.List.{list_any};
 ghost use Rattle.std.specs.Option.{option_copied};
@@ -37,13 +37,13 @@ impl Model for Settings {
     ghost Value = { Meant };
 
     ghost view = { λ s. record {
-        listen = s.listen;
-        aliases = s.aliases;
-        max_while_loops = s.max_while_loops;
-        max_recursive_level = s.max_recursive_level;
-        fr_timer = s.fr_timer;
-        fr_inv_timer = s.fr_inv_timer;
-        tables = s.tables;
+      listen = s.listen;
+      aliases = s.aliases;
+      max_while_loops = s.max_while_loops;
+      max_recursive_level = s.max_recursive_level;
+      fr_timer = s.fr_timer;
+      fr_inv_timer = s.fr_inv_timer;
+      tables = s.tables;
     } };
 }
 
@@ -106,7 +106,7 @@ fn set<T: Copy>(field: &mut Option<T>, value: Option<T>) -> bool
 }
 
 impl Settings {
-    fn unset(alloc: Global) -> Settings
+    pub fn unset(alloc: Global) -> Settings
         ensures { result ≡ unset }
     {
         Settings {
@@ -133,7 +133,7 @@ impl Settings {
 
     /// Sets a parameter, where it may be set so, and says whether it may.
     #[tactic(auto, unfolding(cfg_tree::specs::Settings::with_parameter))]
-    fn set_parameter(
+    pub fn set_parameter(
         &mut self,
         alloc: Global,
         name: &[u8],
@@ -148,10 +148,7 @@ impl Settings {
         } else if name == b"max_while_loops".as_slice() {
             Ok(set(&mut self.max_while_loops, number_in(1, 1000, value)))
         } else if name == b"max_recursive_level".as_slice() {
-            Ok(set(
-                &mut self.max_recursive_level,
-                number_in(1, 1000, value),
-            ))
+            Ok(set(&mut self.max_recursive_level, number_in(1, 1000, value)))
         } else {
             Ok(is_idle(name))
         }
@@ -186,16 +183,16 @@ impl Settings {
 
     /// Sets a parameter of a module, where it may be set so, and says whether it may.
     #[tactic(auto, unfolding(cfg_tree::specs::Settings::with_module_parameter))]
-    fn set_module_parameter(
+    pub fn set_module_parameter(
         &mut self,
         alloc: Global,
-        module: &[u8],
+        module_name: &[u8],
         name: &[u8],
         value: &Setting,
     ) -> Result<bool, NoMemory>
-        ensures { IfOk result (λ accepted. Sets (with_module_parameter module.now name.now value.now self.old) self.old accepted self.new) }
+        ensures { IfOk result (λ accepted. Sets (with_module_parameter module_name.now name.now value.now self.old) self.old accepted self.new) }
     {
-        if module == b"tm".as_slice() {
+        if module_name == b"tm".as_slice() {
             if name == b"fr_timer".as_slice() {
                 Ok(set(&mut self.fr_timer, number_in(1, 3_600_000, value)))
             } else if name == b"fr_inv_timer".as_slice() {
@@ -203,10 +200,56 @@ impl Settings {
             } else {
                 Ok(false)
             }
-        } else if module == b"htable".as_slice() && name == b"htable".as_slice() {
+        } else if module_name == b"htable".as_slice() && name == b"htable".as_slice() {
             self.set_table(alloc, value)
         } else {
             Ok(false)
         }
+    }
+
+    /// How many tables are given.
+    pub fn table_count(&self) -> usize
+        ensures { result ≡ length self.now.tables }
+    {
+        self.tables.len()
+    }
+
+    /// The names of the tables.
+    pub fn table_names(&self, alloc: Global) -> Result<Items<Text>, NoMemory>
+        ensures { IfOk result (λ names. names ≡ map (λ t. t.0) self.now.tables) }
+    {
+        let mut names = Items::new(alloc);
+        for table in self.tables.as_slice() {
+            names.push(table.0.copy(alloc)?)?;
+        }
+        Ok(names)
+    }
+
+    /// What each table is.
+    fn table_specs(&self, alloc: Global) -> Result<Items<TableSpec>, NoMemory>
+        ensures { IfOk result (λ specs. specs ≡ map (λ t. t.1) self.now.tables) }
+    {
+        let mut specs = Items::new(alloc);
+        for table in self.tables.as_slice() {
+            specs.push(table.1)?;
+        }
+        Ok(specs)
+    }
+
+    /// The parameters, with what they are where nothing is given, and what each table is.
+    pub fn into_parts(self, alloc: Global) -> Result<(Parameters, Items<TableSpec>), NoMemory>
+        ensures parameters { IfOk result (λ parts. parts.0 ≡ parameters_of self) }
+        ensures tables { IfOk result (λ parts. parts.1 ≡ map (λ t. t.1) self.tables) }
+    {
+        let tables = self.table_specs(alloc)?;
+        let parameters = Parameters {
+            listen: self.listen,
+            aliases: self.aliases,
+            max_while_loops: self.max_while_loops.unwrap_or(100),
+            max_recursive_level: self.max_recursive_level.unwrap_or(256),
+            fr_timer: self.fr_timer.unwrap_or(30_000),
+            fr_inv_timer: self.fr_inv_timer.unwrap_or(120_000),
+        };
+        Ok((parameters, tables))
     }
 }

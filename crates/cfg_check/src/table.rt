@@ -28,10 +28,10 @@ impl Model for TableParts {
     ghost Value = { Meant };
 
     ghost view = { λ t. record {
-        size = t.size;
-        autoexpire = t.autoexpire;
-        initval = t.initval;
-        update = t.update;
+      size = t.size;
+      autoexpire = t.autoexpire;
+      initval = t.initval;
+      update = t.update;
     } };
 }
 
