@@ -22,13 +22,6 @@ cut_goes front c cs h = elim (cases_Option (table_and_key cs)) [
   | inr (s, e) ↦ rw (h, e, append_assoc) refl
 ]
 
--- what stands at a place, and behind the end
-pub stands_in : (byte : ℕ) (text : List ℕ) (i : ℕ) → i < length text → begins_with byte (drop i text) ≡ (get_or text i 0 == byte)
-stands_in byte text i lt = let e = drop_more text i 0 lt in rw e refl
-
-pub stands_past : (byte : ℕ) (text : List ℕ) (i : ℕ) → length text ≤ i → begins_with byte (drop i text) ≡ false
-stands_past byte text i le = rw (drop_all i text le) refl
-
 -- no `=>` stands here
 pub cut_later : (text : List ℕ) (i : ℕ) → i < length text → (begins_with 61 (drop i text) && begins_with 62 (drop (i + 1) text)) ≡ false → behind (take i text) (table_and_key (drop i text)) ≡ behind (take (i + 1) text) (table_and_key (drop (i + 1) text))
 cut_later text i lt h =

@@ -6,3 +6,4 @@ pub mod Lookups
 pub mod Layers
 pub mod Calls
 pub mod Reading
+pub mod Parts

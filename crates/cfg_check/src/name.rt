@@ -1,9 +1,11 @@
 // Names, and what stands behind them.
 
-ghost use Rattle.std.specs.Prelude.{◌≡◌, ◌<◌, length, drop, option_map, IsTrue};
+ghost use Rattle.std.specs.Prelude.{◌≡◌, option_map};
 ghost use Rattle.std.specs.List.{list_all};
 ghost use Rattle.cfg_tree.specs.Names.{table_and_key};
-ghost use Rattle.cfg_tree.specs.Variables.{begins_name, goes_on, is_name, begins_with};
+ghost use Rattle.cfg_tree.specs.Variables.{begins_name, goes_on, is_name};
+
+use crate::bytes::stands_at;
 
 /// Whether a name may begin with the byte: a letter or `_`.
 fn begins_name(byte: u8) -> bool
@@ -34,15 +36,6 @@ pub fn is_name(text: &[u8]) -> bool
         [first, rest @ ..] => begins_name(*first) && goes_on_with(rest),
         [] => false,
     }
-}
-
-/// Whether the byte stands at `at`.
-#[tactic(auto, using(crate::proofs::Names::stands_in, crate::proofs::Names::stands_past))]
-pub fn stands_at(text: &[u8], at: usize, byte: u8) -> bool
-    ensures value { result ≡ begins_with byte (drop at text.now) }
-    ensures within { IsTrue result → at < length text.now }
-{
-    at < text.len() && text[at] == byte
 }
 
 /// A text of the form `TABLE=>KEY`, cut at the first `=>`.
