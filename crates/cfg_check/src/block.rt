@@ -43,9 +43,7 @@ fn is_same_name(a: &Option<Text>, b: &Option<Text>) -> bool
 fn has_block(blocks: &[(RouteKind, Option<Text>)], name: &(RouteKind, Option<Text>)) -> bool
     ensures { result ≡ list_any (functions.is_same_block name.now) blocks.now }
 {
-    blocks
-        .iter()
-        .any(|block| is_same_kind(name.0, block.0) && is_same_name(&name.1, &block.1))
+    blocks.iter().any(|block| is_same_kind(name.0, block.0) && is_same_name(&name.1, &block.1))
 }
 
 /// A block's name, or the word that begins it.

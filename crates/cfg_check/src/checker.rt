@@ -8,8 +8,8 @@ ghost use Rattle.cfg_tree.specs.Refusals.{refused};
 ghost use Rattle.cfg_check.specs.Kinds.{number_of};
 ghost use Rattle.cfg_check.specs.Following.{State, Follows, Counts};
 
-use crate::vars::Names;
 use crate::refusal::{Kind, Refusal};
+use crate::vars::Names;
 use pv_values::{Pattern, PatternFault, Patterns, Place};
 use sqlite_items::Items;
 use std::alloc::{AllocError as NoMemory, Global};

@@ -57,11 +57,7 @@ fn chain(
     }
 }
 
-fn matches(
-    alloc: Global,
-    e: Option<Expr>,
-    pattern: Option<u32>,
-) -> Result<Option<Expr>, NoMemory>
+fn matches(alloc: Global, e: Option<Expr>, pattern: Option<u32>) -> Result<Option<Expr>, NoMemory>
     ensures { IfOk result (λ r. r ≡ join (λ x p. roll-Expr (Expr-F.Matches x p)) e pattern) }
 {
     match (e, pattern) {

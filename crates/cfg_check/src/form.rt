@@ -219,12 +219,7 @@ impl Checker {
     }
 
     /// `("literal")`: a method, or the name of a field
-    fn testing(
-        &mut self,
-        test: Test,
-        at: Place,
-        args: &[RawArg],
-    ) -> Result<Option<Call>, NoMemory>
+    fn testing(&mut self, test: Test, at: Place, args: &[RawArg]) -> Result<Option<Call>, NoMemory>
         ensures { (known : _) → IfOk result (λ v. Follows (functions.taking_text (func_with_text test) known at args.now) self.old v self.new) }
     {
         let Some(word) = only_literal(args) else {

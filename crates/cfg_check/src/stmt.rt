@@ -19,11 +19,7 @@ use sqlite_items::{Boxed, Items};
 use std::alloc::{AllocError as NoMemory, Global};
 
 /// The one statement that stands here, if it is one of those that a script may have.
-fn alone(
-    alloc: Global,
-    within: bool,
-    stmt: Option<Stmt>,
-) -> Result<Option<Items<Stmt>>, NoMemory>
+fn alone(alloc: Global, within: bool, stmt: Option<Stmt>) -> Result<Option<Items<Stmt>>, NoMemory>
     ensures { IfOk result (λ r. r ≡ within_limit within (option_map (λ s. s ∷ []) stmt)) }
 {
     match stmt {
@@ -145,7 +141,11 @@ impl Checker {
         ensures { IfOk result (λ r. Follows (checks.numbered at (accepted [])) self.old r self.new) }
     {
         let within = self.count(at)?;
-        if within { Ok(Some(Items::new(self.alloc()))) } else { Ok(None) }
+        if within {
+            Ok(Some(Items::new(self.alloc())))
+        } else {
+            Ok(None)
+        }
     }
 
     /// A statement, in a block of this kind.
