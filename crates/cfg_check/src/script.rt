@@ -59,7 +59,7 @@ fn unnamed(known: &Known, kind: BlockKind) -> Result<Option<u32>, NoMemory>
 }
 
 /// What is read of a tree, and what is refused of it.
-fn read(alloc: Global, raw: &RawScript) -> Result<Read, NoMemory>
+fn read_tree(alloc: Global, raw: &RawScript) -> Result<Read, NoMemory>
     ensures { IfOk result (IsRead raw.now) }
 {
     let items = raw.items.as_slice();
@@ -100,7 +100,7 @@ fn end_of(raw: &RawScript) -> Place
 pub fn judged(alloc: Global, raw: &RawScript) -> Result<Result<Script, Refusal>, NoMemory>
     ensures { IfOk result (IsJudged raw.now) }
 {
-    let read = read(alloc, raw)?;
+    let read = read_tree(alloc, raw)?;
     if let Some(first) = first_refusal(read.refusals.as_slice()) {
         return Ok(Err(first.copy()));
     }
