@@ -5,3 +5,5 @@ mod Endings
 mod Paths
 mod Semicolons
 mod Standing
+pub mod Follows
+pub mod Expansions

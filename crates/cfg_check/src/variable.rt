@@ -169,6 +169,23 @@ impl Checker {
         }
     }
 
+    /// A variable without its transformation.
+    #[cycle(expansions)]
+    fn untransformed(
+        &mut self,
+        depth: usize,
+        known: &Known,
+        at: Place,
+        v: &Variable,
+    ) -> Result<Option<Part>, NoMemory>
+        ensures { IfOk result (λ part. Follows (one roll-Part (names.untransformed known.now (names.expansion_within depth known.now at) at v.now v.now.inner)) self.old part self.new) }
+    {
+        match &v.inner {
+            None => self.bare(at, v.name.bytes()),
+            Some(inner) => self.with_inner(depth, known, at, v.name.bytes(), inner.bytes()),
+        }
+    }
+
     /// A variable, whose key has keys nested in it at most so deep.
     #[cycle(expansions)]
     fn variable_within(
@@ -180,15 +197,14 @@ impl Checker {
     ) -> Result<Option<Part>, NoMemory>
         ensures { IfOk result (λ part. Follows (one roll-Part (names.layer_by known.now (names.expansion_within depth known.now at) at v.now)) self.old part self.new) }
     {
-        let part = match &v.inner {
-            None => self.bare(at, v.name.bytes())?,
-            Some(inner) => { self.with_inner(depth, known, at, v.name.bytes(), inner.bytes())? }
-        };
-        let Some(name) = &v.transformation else {
-            return Ok(part);
-        };
-        let transformation = self.transformation(at, name.bytes())?;
-        transformed(self.alloc(), part, transformation)
+        let part = self.untransformed(depth, known, at, v)?;
+        match &v.transformation {
+            None => Ok(part),
+            Some(name) => {
+                let transformation = self.transformation(at, name.bytes())?;
+                transformed(self.alloc(), part, transformation)
+            }
+        }
     }
 
     /// A piece of a text that is expanded.
