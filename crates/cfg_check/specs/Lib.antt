@@ -2,3 +2,4 @@ pub mod Answer
 pub mod Kinds
 pub mod Following
 pub mod Parts
+pub mod Sets
