@@ -1,12 +1,10 @@
 -- A name without its path, byte by byte.
-use Rattle.std.proofs.Common.{◌≡◌, ℕ, suc, ◌+◌, ◌-◌, ◌<◌, ◌≤◌, true, false, ◌==◌, List, [], ◌∷◌, ◌++◌, length, get_or, take, drop, reverse, if◌then◌else◌, refl, ◌∙◌, ap, sym, inl, inr, arith}
+use Rattle.std.proofs.Common.{◌≡◌, ℕ, ◌+◌, ◌-◌, ◌<◌, ◌≤◌, true, false, ◌==◌, List, [], ◌∷◌, ◌++◌, length, get_or, take, drop, reverse, if◌then◌else◌, refl, ◌∙◌, ap, sym, inl, inr, arith}
 use Rattle.std.proofs.lemmas.Bool.{cases_Bool}
 use Rattle.std.proofs.lemmas.List.{take_more, take_all, take_rest, reverse-append, drop_all, length-take, drop-append-le}
+use Rattle.cfg_check.proofs.Standing.{take_one}
 use Rattle.cfg_tree.specs.Variables.{before}
 use Rattle.cfg_tree.specs.Settings.{without_path}
-
-take_one : (n c : ℕ) (cs : List ℕ) → take (1 + n) (c ∷ cs) ≡ c ∷ take n cs
-take_one n c cs = let e : 1 + n ≡ suc n = omega arith in rw e refl
 
 -- one byte more
 path_more : (front : List ℕ) (c : ℕ) → without_path (front ++ c ∷ []) ≡ (if c == 47 then [] else without_path front ++ c ∷ [])

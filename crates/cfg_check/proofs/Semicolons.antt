@@ -1,15 +1,13 @@
 -- A text cut at its semicolons, part by part.
 use Rattle.std.proofs.Common.{◌≡◌, ℕ, suc, ◌+◌, false, ◌==◌, List, [], ◌∷◌, length, take, drop, Option, Some, None, refl, ◌∙◌, ap, sym, inl, inr, arith}
 use Rattle.std.proofs.lemmas.Bool.{cases_Bool, false≢true}
+use Rattle.cfg_check.proofs.Standing.{take_one}
 use Rattle.cfg_tree.specs.Variables.{before}
 use Rattle.cfg_tree.specs.Settings.{TableParts, at_semicolons, without_empty_end, with_part, with_parts}
 
 -- the parts of a text
 abbrev pub parts_of : List ℕ → List (List ℕ)
 parts_of text = without_empty_end (at_semicolons text)
-
-take_one : (n c : ℕ) (cs : List ℕ) → take (1 + n) (c ∷ cs) ≡ c ∷ take n cs
-take_one n c cs = let e : 1 + n ≡ suc n = omega arith in rw e refl
 
 drop_one : (n c : ℕ) (cs : List ℕ) → drop (1 + n + 1) (c ∷ cs) ≡ drop (n + 1) cs
 drop_one n c cs = let e : 1 + n + 1 ≡ suc (n + 1) = omega arith in rw e refl

@@ -1,5 +1,5 @@
 -- Where a byte stands in a text.
-use Rattle.std.proofs.Common.{◌≡◌, ℕ, ◌+◌, ◌<◌, ◌≤◌, true, false, ◌==◌, List, length, get_or, drop, refl, arith}
+use Rattle.std.proofs.Common.{◌≡◌, ℕ, suc, ◌+◌, ◌<◌, ◌≤◌, true, false, ◌==◌, List, ◌∷◌, length, get_or, take, drop, refl, arith}
 use Rattle.std.proofs.lemmas.List.{drop_more, drop_all}
 use Rattle.cfg_tree.specs.Variables.{before, begins_with}
 
@@ -19,3 +19,6 @@ goes_on byte text i lt h = let e = drop_more text i 0 lt in rw (e, h) (omega ari
 
 pub ends : (byte : ℕ) (text : List ℕ) (i : ℕ) → length text ≤ i → i + before byte (drop i text) ≡ i
 ends byte text i le = rw (drop_all i text le) (omega arith)
+
+pub take_one : (n c : ℕ) (cs : List ℕ) → take (1 + n) (c ∷ cs) ≡ c ∷ take n cs
+take_one n c cs = let e : 1 + n ≡ suc n = omega arith in rw e refl

@@ -7,3 +7,4 @@ pub mod Layers
 pub mod Calls
 pub mod Reading
 pub mod Parts
+pub mod Sets

@@ -22,7 +22,8 @@ fn refuse_unless(
     at: Place,
     refusals: &mut Items<Refusal>,
 ) -> Result<(), NoMemory>
-    ensures { OnOk result (refusals.new ≡ refusals.old ++ (if passed then [] else record { kind = number_of kind; at = at } ∷ [])) }
+    ensures { let refused = record { kind = number_of kind; at = at } ∷ [] in
+        OnOk result (refusals.new ≡ refusals.old ++ (if passed then [] else refused)) }
 {
     if !passed {
         refusals.push(Refusal::new(kind, at))?;
@@ -31,22 +32,23 @@ fn refuse_unless(
 }
 
 /// `NAME = VALUE`
-fn parameter(
+fn take_parameter(
     alloc: Global,
     name: &Word,
     value: &Setting,
     settings: &mut Settings,
     refusals: &mut Items<Refusal>,
 ) -> Result<(), NoMemory>
-    ensures set { OnOk result (settings.new ≡ (item_step (RawItem.Parameter name.now value.now) settings.old).0) }
-    ensures refused { OnOk result (refusals.new ≡ refusals.old ++ (item_step (RawItem.Parameter name.now value.now) settings.old).1) }
+    ensures set { let i = RawItem.Parameter name.now value.now in OnOk result (settings.new ≡ (item_step i settings.old).0) }
+    ensures refused { let i = RawItem.Parameter name.now value.now in
+        OnOk result (refusals.new ≡ refusals.old ++ (item_step i settings.old).1) }
 {
     let accepted = settings.set_parameter(alloc, name.text.bytes(), value)?;
     refuse_unless(accepted, Kind::BadParameter, name.at, refusals)
 }
 
 /// `modparam(MODULE, NAME, VALUE)`: the 33rd table is refused.
-fn module_parameter(
+fn take_module_parameter(
     alloc: Global,
     module_name: &Word,
     name: &Word,
@@ -54,8 +56,10 @@ fn module_parameter(
     settings: &mut Settings,
     refusals: &mut Items<Refusal>,
 ) -> Result<(), NoMemory>
-    ensures set { OnOk result (settings.new ≡ (item_step (RawItem.ModuleParameter module_name.now name.now value.now) settings.old).0) }
-    ensures refused { OnOk result (refusals.new ≡ refusals.old ++ (item_step (RawItem.ModuleParameter module_name.now name.now value.now) settings.old).1) }
+    ensures set { let i = RawItem.ModuleParameter module_name.now name.now value.now in
+        OnOk result (settings.new ≡ (item_step i settings.old).0) }
+    ensures refused { let i = RawItem.ModuleParameter module_name.now name.now value.now in
+        OnOk result (refusals.new ≡ refusals.old ++ (item_step i settings.old).1) }
 {
     let old_count = settings.table_count();
     let accepted = settings.set_module_parameter(
@@ -71,7 +75,7 @@ fn module_parameter(
 }
 
 /// One item.
-fn item(
+fn take_item(
     alloc: Global,
     item: &RawItem,
     settings: &mut Settings,
@@ -81,7 +85,7 @@ fn item(
     ensures refused { OnOk result (refusals.new ≡ refusals.old ++ (item_step item.now settings.old).1) }
 {
     match item {
-        RawItem::Parameter(name, value) => parameter(alloc, name, value, settings, refusals),
+        RawItem::Parameter(name, value) => take_parameter(alloc, name, value, settings, refusals),
         RawItem::Module(name) => refuse_unless(
             is_module(name.text.bytes()),
             Kind::UnknownModule,
@@ -89,7 +93,7 @@ fn item(
             refusals,
         ),
         RawItem::ModuleParameter(module_name, name, value) => {
-            module_parameter(alloc, module_name, name, value, settings, refusals)
+            take_module_parameter(alloc, module_name, name, value, settings, refusals)
         }
         RawItem::Block(_) => Ok(()),
     }
@@ -105,8 +109,8 @@ pub fn settings_in(
     ensures refused { OnOk result (refusals.new ≡ refusals.old ++ setting_refusals items.now) }
 {
     let mut settings = Settings::unset(alloc);
-    for next in items {
-        item(alloc, next, &mut settings, refusals)?;
+    for item in items {
+        take_item(alloc, item, &mut settings, refusals)?;
     }
     Ok(settings)
 }

@@ -1,8 +1,24 @@
 // The modules that a script may load.
 
 ghost use Rattle.std.specs.Prelude.{◌≡◌, ◌++◌, ◌||◌, codes};
+ghost use Rattle.std.specs.List.{list_any};
 ghost use Rattle.std.specs.Str.{bytes_eq};
 ghost use Rattle.cfg_tree.specs.Settings.{without_path, is_module};
+
+/// The modules that are known.
+const MODULE_NAMES: [&[u8]; 11] = [
+    b"tm",
+    b"tmx",
+    b"pv",
+    b"htable",
+    b"corex",
+    b"sl",
+    b"textops",
+    b"siputils",
+    b"maxfwd",
+    b"rr",
+    b"xlog",
+];
 
 /// A name without its path: what is behind the last `/`.
 #[tactic(auto, using(crate::proofs::Paths::slash_seen, crate::proofs::Paths::other_seen, crate::proofs::Paths::all_seen))]
@@ -29,20 +45,16 @@ fn is_file_of(text: &[u8], name: &[u8]) -> bool
     }
 }
 
+/// Whether the text is one of the names, with or without `.so`.
+fn is_file_of_one(text: &[u8], names: &[&[u8]]) -> bool
+    ensures { result ≡ list_any (λ n. bytes_eq text.now n.now || bytes_eq text.now (n.now ++ codes ".so")) names.now }
+{
+    names.iter().any(|name| is_file_of(text, name))
+}
+
 /// Whether a module is known, named with or without a path and `.so`.
 pub fn is_module(text: &[u8]) -> bool
     ensures { result ≡ is_module text.now }
 {
-    let file = without_path(text);
-    is_file_of(file, b"tm".as_slice())
-        || is_file_of(file, b"tmx".as_slice())
-        || is_file_of(file, b"pv".as_slice())
-        || is_file_of(file, b"htable".as_slice())
-        || is_file_of(file, b"corex".as_slice())
-        || is_file_of(file, b"sl".as_slice())
-        || is_file_of(file, b"textops".as_slice())
-        || is_file_of(file, b"siputils".as_slice())
-        || is_file_of(file, b"maxfwd".as_slice())
-        || is_file_of(file, b"rr".as_slice())
-        || is_file_of(file, b"xlog".as_slice())
+    is_file_of_one(without_path(text), &MODULE_NAMES)
 }

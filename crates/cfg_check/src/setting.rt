@@ -1,20 +1,17 @@
 // What a script sets: its parameters and its tables.
 
-ghost use Rattle.std.specs.Prelude.{◌≡◌, ◌++◌, [], ◌∷◌, length, map, Some, option_map, OnOk, IfOk, if◌then◌else◌};
+ghost use Rattle.std.specs.Prelude.{◌≡◌, ℕ, List, ◌++◌, [], ◌∷◌, length, map, Some, option_map, IfOk};
 ghost use Rattle.std.specs.Str.{bytes_eq};
 ghost use Rattle.std.specs.List.{list_any};
 ghost use Rattle.std.specs.Option.{option_copied};
 ghost use Rattle.cfg_tree.specs.Functions.{between};
-ghost use Rattle.cfg_tree.specs.Settings.{unset, first_time, listen_in, string_in, natural_in, limit, idle_names, with_parameter, has_table, with_table, table_of_string, with_module_parameter, set_or_refused, within_tables, table_limit, item_step, settings_of, setting_refusals, parameters_of};
-ghost use Rattle.cfg_check.specs.Kinds.{number_of};
-ghost use Rattle.cfg_check.specs.Parts.{Sets};
+ghost use Rattle.cfg_tree.specs.Settings.{unset, first_time, listen_in, string_in, natural_in, idle_names, with_parameter, has_table, with_table, table_of_string, with_module_parameter, parameters_of};
+ghost use Rattle.cfg_check.specs.Sets.{Sets};
 
 use crate::limit::number_between;
-use crate::module::is_module;
-use crate::refusal::{Kind, Refusal};
 use crate::table::table_in;
-use cfg_tree::{Listen, Parameters, RawItem, Setting, Word};
-use pv_values::{Place, TableSpec, Text};
+use cfg_tree::{Listen, Parameters, Setting};
+use pv_values::{TableSpec, Text};
 use sqlite_items::Items;
 use std::alloc::{AllocError as NoMemory, Global};
 use std::marker::Model;
@@ -77,19 +74,31 @@ fn number_in(low: u32, high: u32, value: &Setting) -> Option<u32>
     }
 }
 
+/// The parameters without effect.
+const IDLE_NAMES: [&[u8]; 9] = [
+    b"debug",
+    b"log_stderror",
+    b"log_facility",
+    b"fork",
+    b"children",
+    b"auto_aliases",
+    b"mpath",
+    b"memdbg",
+    b"memlog",
+];
+
+/// Whether the name is one of these.
+fn is_one_of(name: &[u8], names: &[&[u8]]) -> bool
+    ensures { result ≡ list_any (λ n. bytes_eq name.now n.now) names.now }
+{
+    names.iter().any(|other| name == *other)
+}
+
 /// Whether a parameter has no effect.
 fn is_idle(name: &[u8]) -> bool
     ensures { result ≡ list_any (bytes_eq name.now) idle_names }
 {
-    name == b"debug".as_slice()
-        || name == b"log_stderror".as_slice()
-        || name == b"log_facility".as_slice()
-        || name == b"fork".as_slice()
-        || name == b"children".as_slice()
-        || name == b"auto_aliases".as_slice()
-        || name == b"mpath".as_slice()
-        || name == b"memdbg".as_slice()
-        || name == b"memlog".as_slice()
+    is_one_of(name, &IDLE_NAMES)
 }
 
 /// Sets what isn't set yet to a value, and says whether it did.
@@ -106,6 +115,7 @@ fn set<T: Copy>(field: &mut Option<T>, value: Option<T>) -> bool
 }
 
 impl Settings {
+    /// Nothing is set.
     pub fn unset(alloc: Global) -> Settings
         ensures { result ≡ unset }
     {
@@ -122,7 +132,8 @@ impl Settings {
 
     /// Adds an alias, where the value is one, and says whether it is.
     fn set_alias(&mut self, alloc: Global, value: &Setting) -> Result<bool, NoMemory>
-        ensures { IfOk result (λ accepted. Sets (option_map (λ host. record self.old { aliases = self.old.aliases ++ host ∷ [] }) (string_in value.now)) self.old accepted self.new) }
+        ensures { let with_alias = λ (host : List ℕ). record self.old { aliases = self.old.aliases ++ host ∷ [] } in
+            IfOk result (λ accepted. Sets (option_map with_alias (string_in value.now)) self.old accepted self.new) }
     {
         let Some(host) = string_in(value) else {
             return Ok(false);
@@ -139,7 +150,8 @@ impl Settings {
         name: &[u8],
         value: &Setting,
     ) -> Result<bool, NoMemory>
-        ensures { IfOk result (λ accepted. Sets (with_parameter name.now value.now self.old) self.old accepted self.new) }
+        ensures { let set = with_parameter name.now value.now self.old in
+            IfOk result (λ accepted. Sets set self.old accepted self.new) }
     {
         if name == b"listen".as_slice() {
             Ok(set(&mut self.listen, listen_in(value)))
@@ -166,7 +178,8 @@ impl Settings {
 
     /// Adds a table, where a value gives one that isn't given yet, and says whether it does.
     fn set_table(&mut self, alloc: Global, value: &Setting) -> Result<bool, NoMemory>
-        ensures { IfOk result (λ accepted. Sets (with_table self.old (table_of_string (string_in value.now))) self.old accepted self.new) }
+        ensures { let set = with_table self.old (table_of_string (string_in value.now)) in
+            IfOk result (λ accepted. Sets set self.old accepted self.new) }
     {
         let Some(text) = string_in(value) else {
             return Ok(false);
@@ -190,7 +203,8 @@ impl Settings {
         name: &[u8],
         value: &Setting,
     ) -> Result<bool, NoMemory>
-        ensures { IfOk result (λ accepted. Sets (with_module_parameter module_name.now name.now value.now self.old) self.old accepted self.new) }
+        ensures { let set = with_module_parameter module_name.now name.now value.now self.old in
+            IfOk result (λ accepted. Sets set self.old accepted self.new) }
     {
         if module_name == b"tm".as_slice() {
             if name == b"fr_timer".as_slice() {
