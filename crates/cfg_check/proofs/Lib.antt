@@ -5,3 +5,8 @@ mod Endings
 mod Paths
 mod Semicolons
 mod Standing
+pub mod Valued
+pub mod ValuedNames
+pub mod ValuedFunctions
+pub mod ValuedTrees
+pub mod ValuedScripts
