@@ -7,3 +7,8 @@ mod Semicolons
 mod Standing
 pub mod Follows
 pub mod Expansions
+pub mod Valued
+pub mod ValuedNames
+pub mod ValuedFunctions
+pub mod ValuedTrees
+pub mod ValuedScripts

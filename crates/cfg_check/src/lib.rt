@@ -21,6 +21,7 @@ mod host;
 mod item;
 mod joins;
 mod known;
+pub mod laws;
 mod limit;
 mod module;
 mod name;
