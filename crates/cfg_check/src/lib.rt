@@ -11,6 +11,8 @@ ghost use Rattle.cfg_tree.specs.Checks.{IsAccepted, IsRefused};
 ghost use Rattle.cfg_check.specs.Answer.{IsRefusalOf, GivesScript, GivesRefusal};
 
 mod refusal;
+#[cfg(test)]
+mod tests;
 
 use cfg_tree::{RawScript, Script};
 use pv_values::ScriptFault;
