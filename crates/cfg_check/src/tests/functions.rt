@@ -13,7 +13,7 @@ const NO_FUNCTIONS: &str =
 const UNKNOWN: [&str; 12] = [
     "`foo` (1, 'a', $ru);",
     "`foo`('$foo', $foo);",
-    "t_relay(); `foo`(); `bar`();",
+    "t_relay(); `foo`(); bar();",
     "if(`foo`()) exit;",
     "if(1); else `foo`();",
     "while(!`foo`()) { }",
