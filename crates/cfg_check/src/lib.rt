@@ -10,9 +10,30 @@ ghost use Rattle.cfg_tree.specs.declared.script.Script.{Script};
 ghost use Rattle.cfg_tree.specs.Checks.{IsAccepted, IsRefused};
 ghost use Rattle.cfg_check.specs.Answer.{IsRefusalOf, GivesScript, GivesRefusal};
 
+mod argument;
+mod block;
+mod bytes;
+mod checker;
+mod expr;
+mod form;
+mod function;
+mod host;
+mod item;
+mod joins;
+mod known;
+mod limit;
+mod module;
+mod name;
 mod refusal;
+mod script;
+mod setting;
+mod stmt;
+mod table;
+mod target;
 #[cfg(test)]
 mod tests;
+mod variable;
+mod vars;
 
 use cfg_tree::{RawScript, Script};
 use pv_values::ScriptFault;
@@ -28,5 +49,9 @@ pub fn check(alloc: Global, raw: RawScript) -> Result<Script, ScriptFault>
     ensures whole { (script : Script) → IsAccepted raw script → GivesScript script result }
     ensures first { (kind : ℕ) (at : Place) → IsRefused raw kind at → GivesRefusal kind at result }
 {
-    Err(ScriptFault::NoMemory)
+    match script::judged(alloc, &raw) {
+        Ok(Ok(script)) => Ok(script),
+        Ok(Err(refusal)) => Err(refusal.fault()),
+        Err(_) => Err(ScriptFault::NoMemory),
+    }
 }

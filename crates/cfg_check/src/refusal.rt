@@ -1,9 +1,11 @@
 // Why a part of a script is refused, and where.
 
-ghost use Rattle.std.specs.Prelude.{◌≡◌};
+ghost use Rattle.std.specs.Prelude.{◌≡◌, ◌↔◌, IsTrue};
+ghost use Rattle.pv_values.specs.declared.refusal.ScriptFault.TheVariants.{Refused};
+ghost use Rattle.cfg_tree.specs.Refusals.{GoesBefore};
 ghost use Rattle.cfg_check.specs.Kinds.{number_of};
 
-use pv_values::Place;
+use pv_values::{Place, ScriptFault};
 use std::marker::Model;
 
 /// The kinds of refusal that a check finds.
@@ -78,5 +80,29 @@ impl Refusal {
         ensures { result ≡ record { kind = number_of kind; at = at } }
     {
         Refusal { kind, at }
+    }
+
+    /// The refusal begins earlier, or at the same byte with a kind that isn't greater.
+    pub fn goes_before(&self, other: &Refusal) -> bool
+        ensures { IsTrue result ↔ GoesBefore self.now other.now }
+    {
+        self.at.from < other.at.from
+            || self.at.from == other.at.from && self.kind.number() <= other.kind.number()
+    }
+
+    pub fn copy(&self) -> Refusal
+        ensures { result ≡ self.now }
+    {
+        Refusal::new(self.kind, self.at)
+    }
+
+    /// The answer that tells the refusal.
+    pub fn fault(&self) -> ScriptFault
+        ensures { result ≡ Refused self.now.kind self.now.at }
+    {
+        ScriptFault::Refused {
+            kind: self.kind.number(),
+            at: self.at,
+        }
     }
 }

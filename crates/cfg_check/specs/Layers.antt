@@ -1,0 +1,23 @@
+-- The variables in whose brackets a name stands, each by itself.
+use Rattle.std.specs.Prelude.{ℕ, List}
+use Rattle.pv_values.specs.declared.refusal.Place.{Place}
+use Rattle.pv_values.specs.declared.variable.PvUse.TheVariants as pv
+use Rattle.cfg_tree.specs.declared.script.Part.TheOpen.{Part-F}
+use Rattle.cfg_tree.specs.Names.{Layer, host_layer, var_number, some_text, avp_name, named, suspension_names}
+use Rattle.cfg_tree.specs.Refusals.{Checked, one, from_some}
+
+-- $var(NAME)
+abbrev pub var_layer : Place → List ℕ → Checked Layer
+var_layer at inner = from_some (some_text inner) 9 at (λ n. one (λ x. Part-F.Var x) (var_number n))
+
+-- $avp(NAME)
+abbrev pub avp_layer : Place → List ℕ → Checked Layer
+avp_layer at inner = from_some (avp_name inner) 9 at (λ n. host_layer (pv.Avp n))
+
+-- $hdr(NAME)
+abbrev pub header_layer : Place → List ℕ → Checked Layer
+header_layer at inner = from_some (some_text inner) 9 at (λ n. host_layer (pv.Header n))
+
+-- $T(NAME)
+abbrev pub suspension_layer : Place → List ℕ → Checked Layer
+suspension_layer at inner = from_some (named inner suspension_names) 9 at host_layer

@@ -1,0 +1,121 @@
+// A script: the check of a whole tree.
+
+ghost use Rattle.std.specs.Prelude.{◌≡◌, [], None, IfSome, IfNone, IfOk, position};
+ghost use Rattle.cfg_tree.specs.Refusals.{IsFirst};
+ghost use Rattle.cfg_tree.specs.declared.raw.RouteKind.TheVariants.{Begins};
+ghost use Rattle.cfg_tree.specs.Functions.{is_same_block};
+ghost use Rattle.cfg_check.specs.Reading.{IsRead, IsJudged};
+
+use crate::block::blocks_in;
+use crate::checker::{Checker, number};
+use crate::item::settings_in;
+use crate::known::Known;
+use crate::refusal::{Kind, Refusal};
+use crate::setting::Settings;
+use cfg_tree::{RawScript, RouteKind, Script, Stmt};
+use pv_values::{BlockKind, Patterns, Place};
+use sqlite_items::Items;
+use std::alloc::{AllocError as NoMemory, Global};
+
+/// What was read of a tree.
+#[derive(Drop)]
+struct Read {
+    refusals: Items<Refusal>,
+    settings: Settings,
+    /// The statements of each block.
+    blocks: Option<Items<Items<Stmt>>>,
+    /// The number of `request_route`.
+    request: Option<u32>,
+    /// The number of `reply_route`.
+    reply: Option<u32>,
+    /// How many names of `$var` there are.
+    vars: u32,
+    patterns: Patterns,
+}
+
+/// The first of the refusals: it begins first, and of those that begin at one byte it has the least kind.
+fn first_refusal(refusals: &[Refusal]) -> Option<&Refusal>
+    ensures found { IfSome result (λ r. IsFirst refusals.now r.now) }
+    ensures none { IfNone result (refusals.now ≡ []) }
+{
+    let (first, rest) = refusals.split_first()?;
+    let mut least = first;
+    for refusal in rest {
+        if !least.goes_before(refusal) {
+            least = refusal;
+        }
+    }
+    Some(least)
+}
+
+/// The number of the block of this kind without a name.
+fn unnamed(known: &Known, kind: BlockKind) -> Result<Option<u32>, NoMemory>
+    ensures { IfOk result (λ n. n ≡ position (is_same_block (Begins kind, None)) known.now.blocks) }
+{
+    match known.unnamed(RouteKind::Begins(kind)) {
+        Some(place) => Ok(Some(number(place)?)),
+        None => Ok(None),
+    }
+}
+
+/// What is read of a tree, and what is refused of it.
+fn read_tree(alloc: Global, raw: &RawScript) -> Result<Read, NoMemory>
+    ensures { IfOk result (IsRead raw.now) }
+{
+    let items = raw.items.as_slice();
+    let mut refusals = Items::new(alloc);
+    let settings = settings_in(alloc, items, &mut refusals)?;
+    let blocks = blocks_in(alloc, items, &mut refusals)?;
+    let known = Known::new(blocks, settings.table_names(alloc)?);
+    let mut checker = Checker::new(alloc, refusals);
+    let blocks = checker.bodies(&known, items)?;
+    let request = unnamed(&known, BlockKind::Request)?;
+    if request.is_none() {
+        checker.note(Kind::NoRequestRoute, end_of(raw))?;
+    }
+    let reply = unnamed(&known, BlockKind::Reply)?;
+    let (refusals, vars, patterns) = checker.into_parts()?;
+    Ok(Read {
+        refusals,
+        settings,
+        blocks,
+        request,
+        reply,
+        vars,
+        patterns,
+    })
+}
+
+/// The end of the text, which is empty.
+fn end_of(raw: &RawScript) -> Place
+    ensures { result ≡ record { from = raw.now.end; to = raw.now.end } }
+{
+    Place {
+        from: raw.end,
+        to: raw.end,
+    }
+}
+
+/// The script that a tree stands for, or its first refusal.
+pub fn judged(alloc: Global, raw: &RawScript) -> Result<Result<Script, Refusal>, NoMemory>
+    ensures { IfOk result (IsJudged raw.now) }
+{
+    let read = read_tree(alloc, raw)?;
+    if let Some(first) = first_refusal(read.refusals.as_slice()) {
+        return Ok(Err(first.copy()));
+    }
+    let (parameters, tables) = read.settings.into_parts(alloc)?;
+    match (read.blocks, read.request) {
+        (Some(blocks), Some(request)) => Ok(Ok(Script {
+            blocks,
+            request,
+            reply: read.reply,
+            vars: read.vars,
+            patterns: read.patterns,
+            tables,
+            parameters,
+        })),
+        // A tree of which nothing is refused has both.
+        _ => unreachable!(),
+    }
+}
