@@ -31,6 +31,8 @@ mod setting;
 mod stmt;
 mod table;
 mod target;
+#[cfg(test)]
+mod tests;
 mod variable;
 mod vars;
 
