@@ -7,5 +7,8 @@ mod Pieces
 mod Run
 mod Scripts
 mod Three
+mod Sequence
+mod Texts
 mod Statuses
 mod Causes
+mod Checks
