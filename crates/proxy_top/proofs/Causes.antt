@@ -49,7 +49,7 @@ not_refused_by_sim words folder script scenario text answer kind at w t accepted
 
 not_refused : (words : List (List ℕ)) (folder : Option Folder) (script scenario text : List ℕ) (answer : AnswerAll) (kind : ℕ) (at : Place)
     → words ≡ sim_words script scenario → Tells folder script 1048576 text → IsScript text answer → IsRefused words folder kind at → ⊥
-not_refused words folder script scenario text answer kind at w t accepted (inl r) = two_commands words r.script script scenario r.words_are w
+not_refused words folder script scenario text answer kind at w t accepted (inl r) = two_commands words r.file script scenario r.words_are w
 not_refused words folder script scenario text answer kind at w t accepted (inr r) =
     not_refused_by_sim words folder script scenario text answer kind at w t accepted r
 
@@ -89,7 +89,7 @@ ready_in words folder f g status (outcome.Unread name) r still is ends = absurd 
 
 no_form_in : (words : List (List ℕ)) (folder : Option Folder) (f g status : ℕ) (ending : Ending) → IsInNoForm words folder → (Rises f g → ⊥)
     → status ≡ status_of ending → IsEnding words folder f g ending → status ≡ 2
-no_form_in words folder f g status outcome.Accepted r still is ends = absurd (two_commands words ends.script r.script r.scenario ends.words_are r.words_are)
+no_form_in words folder f g status outcome.Accepted r still is ends = absurd (two_commands words ends.file r.script r.scenario ends.words_are r.words_are)
 no_form_in words folder f g status (outcome.Ran trace) r still is ends =
     let same = same_words r.script r.scenario ends.script ends.scenario (sym r.words_are ∙ ends.words_are) in
     absurd (not_read folder r.script ends.script r.text ends.answer r.held same.0 r.refused ends.accepted)
@@ -102,7 +102,7 @@ no_form_in words folder f g status (outcome.Unread name) r still is ends = absur
 
 wrong_in : (words : List (List ℕ)) (folder : Option Folder) (f g status line : ℕ) (ending : Ending) → IsInWrongLine words folder line → (Rises f g → ⊥)
     → status ≡ status_of ending → IsEnding words folder f g ending → status ≡ 3
-wrong_in words folder f g status line outcome.Accepted r still is ends = absurd (two_commands words ends.script r.script r.scenario ends.words_are r.words_are)
+wrong_in words folder f g status line outcome.Accepted r still is ends = absurd (two_commands words ends.file r.script r.scenario ends.words_are r.words_are)
 wrong_in words folder f g status line (outcome.Ran trace) r still is ends = absurd (not_done words folder line r trace.items ends)
 wrong_in words folder f g status line outcome.Usage r still is ends = absurd (ends.no_sim r.script r.scenario r.words_are)
 wrong_in words folder f g status line (outcome.Refused kind at) r still is ends =

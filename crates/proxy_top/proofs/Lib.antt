@@ -6,8 +6,7 @@ mod Sound
 mod Pieces
 mod Run
 mod Scripts
-mod Three
-mod Sequence
+mod Items
 mod Texts
 mod Statuses
 mod Causes

@@ -124,12 +124,12 @@ names_none words name none (inr (other, inl sim)) = none.no_sim name other sim
 names_none words name none (inr (other, inr sim)) = none.no_sim other name sim
 
 none_refused : (words : List (List ℕ)) (folder : Option Folder) (kind : ℕ) (at : Place) → IsNoCommand words → IsRefused words folder kind at → ⊥
-none_refused words folder kind at none (inl r) = none.no_check r.script r.words_are
+none_refused words folder kind at none (inl r) = none.no_check r.file r.words_are
 none_refused words folder kind at none (inr r) = none.no_sim r.script r.scenario r.words_are
 
 no_command_in : (words : List (List ℕ)) (folder : Option Folder) (f g status : ℕ) (ending : Ending)
     → status ≡ status_of ending → IsEnding words folder f g ending → IsNoCommand words → status ≡ 1
-no_command_in words folder f g status outcome.Accepted is ends none = absurd (none.no_check ends.script ends.words_are)
+no_command_in words folder f g status outcome.Accepted is ends none = absurd (none.no_check ends.file ends.words_are)
 no_command_in words folder f g status (outcome.Ran trace) is ends none = absurd (none.no_sim ends.script ends.scenario ends.words_are)
 no_command_in words folder f g status outcome.Usage is ends none = is
 no_command_in words folder f g status (outcome.Refused kind at) is ends none = absurd (none_refused words folder kind at none ends)

@@ -8,7 +8,7 @@ use Rattle.proxy_top.specs.declared.command.Command.TheVariants.{Check, Sim}
 
 -- check FILE
 abbrev pub check_words : List ℕ → List (List ℕ)
-check_words script = codes "check" ∷ script ∷ []
+check_words file = codes "check" ∷ file ∷ []
 
 -- sim FILE SCENARIO
 abbrev pub sim_words : List ℕ → List ℕ → List (List ℕ)
@@ -20,7 +20,7 @@ words_of words = map (λ w. string_bytes w) words
 
 -- the words are in no form
 pub record IsNoCommand (words : List (List ℕ)) : Type 0 where
-  pub no_check : (script : List ℕ) → words ≡ check_words script → ⊥
+  pub no_check : (file : List ℕ) → words ≡ check_words file → ⊥
   pub no_sim : (script scenario : List ℕ) → words ≡ sim_words script scenario → ⊥
 
 abbrev pub IsCommand : List (List ℕ) → Command → Type 0

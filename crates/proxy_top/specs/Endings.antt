@@ -46,24 +46,24 @@ memory_line = codes "out of memory\n"
 
 -- the words are `check`, and the file holds a text that is accepted
 pub record IsAccepted (words : List (List ℕ)) (folder : Option Folder) : Type 0 where
-  pub script : List ℕ
-  pub words_are : words ≡ check_words script
+  pub file : List ℕ
+  pub words_are : words ≡ check_words file
   pub text : List ℕ
-  pub held : Holds folder script text
-  pub value : Script
-  pub accepted : AcceptsText text value
+  pub held : Holds folder file text
+  pub script : Script
+  pub accepted : AcceptsText text script
 
 -- this file is refused: it holds a text of at most 1 MiB that is refused so, or it is longer
 abbrev pub RefusesFile : Option Folder → List ℕ → ℕ → Place → Type 0
-RefusesFile folder script kind at =
-    ((text : List ℕ) × Holds folder script text × (length text ≤ 1048576) × RefusesText text kind at)
-    ⊎ (IsLonger folder script 1048576 × (kind ≡ 13) × (at ≡ place 1048576 1048577))
+RefusesFile folder file kind at =
+    ((text : List ℕ) × Holds folder file text × (length text ≤ 1048576) × RefusesText text kind at)
+    ⊎ (IsLonger folder file 1048576 × (kind ≡ 13) × (at ≡ place 1048576 1048577))
 
 -- the words are `check`, and the file is refused with this kind at this place
 pub record IsRefusedByCheck (words : List (List ℕ)) (folder : Option Folder) (kind : ℕ) (at : Place) : Type 0 where
-  pub script : List ℕ
-  pub words_are : words ≡ check_words script
-  pub refused : RefusesFile folder script kind at
+  pub file : List ℕ
+  pub words_are : words ≡ check_words file
+  pub refused : RefusesFile folder file kind at
 
 -- ---- how the command `sim` ends
 
@@ -196,29 +196,29 @@ pub record Tells (folder : Option Folder) (name : List ℕ) (limit : ℕ) (text 
 
 -- the words are `check`, and the file is told to hold a text that is accepted
 pub record IsToAccept (words : List (List ℕ)) (folder : Option Folder) : Type 0 where
-  pub script : List ℕ
-  pub words_are : words ≡ check_words script
+  pub file : List ℕ
+  pub words_are : words ≡ check_words file
   pub text : List ℕ
-  pub held : Tells folder script 1048576 text
-  pub value : Script
-  pub accepted : AcceptsText text value
+  pub held : Tells folder file 1048576 text
+  pub script : Script
+  pub accepted : AcceptsText text script
 
 -- the words are `check`, and the file is told to hold a text that is refused with this kind at this place
 pub record IsToRefuse (words : List (List ℕ)) (folder : Option Folder) (kind : ℕ) (at : Place) : Type 0 where
-  pub script : List ℕ
-  pub words_are : words ≡ check_words script
+  pub file : List ℕ
+  pub words_are : words ≡ check_words file
   pub text : List ℕ
-  pub held : Tells folder script 1048576 text
+  pub held : Tells folder file 1048576 text
   pub refused : RefusesText text kind at
 
 -- the words are `check`, and the file is told to be longer than 1 MiB
 pub record IsTooLong (words : List (List ℕ)) (folder : Option Folder) : Type 0 where
-  pub script : List ℕ
-  pub words_are : words ≡ check_words script
+  pub file : List ℕ
+  pub words_are : words ≡ check_words file
   pub files : Folder
   pub told : folder ≡ Some files
   pub text : List ℕ
-  pub held : files script ≡ Some text
+  pub held : files file ≡ Some text
   pub long : 1048576 < length text
 
 -- printed was a refusal of this kind, which, unless it is Syntax, begins at this byte

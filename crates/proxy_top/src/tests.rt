@@ -136,12 +136,7 @@ fn sim_case<'a>(
 
 const CHECK: [&str; 2] = ["check", "a"];
 
-fn check_case<'a>(
-    shows: &'a str,
-    script: &'a str,
-    status: u8,
-    printed: &'a str,
-) -> Case<'a> {
+fn check_case<'a>(shows: &'a str, script: &'a str, status: u8, printed: &'a str) -> Case<'a> {
     Case {
         words: &CHECK,
         ..sim_case(shows, script, "", status, printed)
@@ -326,7 +321,12 @@ fn words_files_and_consoles_that_fail(rt: HostRuntime) -> Result<(), Fail> {
 #[test]
 fn texts_that_have_no_tree(rt: HostRuntime) -> Result<(), Fail> {
     let cases = [
-        check_case("a stray byte", "request_route { @ }", 2, "refused 1 at 16..17\n"),
+        check_case(
+            "a stray byte",
+            "request_route { @ }",
+            2,
+            "refused 1 at 16..17\n",
+        ),
         check_case(
             "an open string",
             "request_route { xlog(\"a",
@@ -385,30 +385,29 @@ fn scripts_that_are_checked(rt: HostRuntime) -> Result<(), Fail> {
     Ok(())
 }
 
-/// A byte with which no token begins, and blanks up to this length.
-fn stray_and_blanks(alloc: Global, len: usize) -> Result<Vec<u8>, Fail> {
-    let mut text = Vec::from_slice(alloc, b"@")?;
-    for _ in 1..len {
-        text.push(b' ')?;
-    }
-    Ok(text)
-}
-
 #[test]
 fn scripts_round_the_longest(rt: HostRuntime) -> Result<(), Fail> {
     let alloc = rt.alloc();
-    let longest = stray_and_blanks(alloc, 1_048_576)?;
+    // No token begins with the byte.
+    let longest = vec![in alloc; b'@'; 1_048_576]?;
     let case = check_case("the longest", "", 2, "refused 1 at 0..1\n");
-    assert!(rt; holds_with(alloc, &case, longest.as_slice())?, "{}", case.shows);
-    let longer = stray_and_blanks(alloc, 1_048_577)?;
-    let case = check_case(
-        "one byte more",
-        "",
-        2,
-        "refused 13 at 1048576..1048577\n",
+    assert!(rt;
+        holds_with(alloc, &case, longest.as_slice())?,
+        "{}",
+        case.shows
     );
-    assert!(rt; holds_with(alloc, &case, longer.as_slice())?, "{}", case.shows);
-    let case = sim_case("one byte more", "", OPTIONS, 2, "refused 3 at 0..0\n");
-    assert!(rt; holds_with(alloc, &case, longer.as_slice())?, "{}", case.shows);
+    let longer = vec![in alloc; b'@'; 1_048_577]?;
+    let case = check_case("one byte more", "", 2, "refused 13 at 1048576..1048577\n");
+    assert!(rt;
+        holds_with(alloc, &case, longer.as_slice())?,
+        "{}",
+        case.shows
+    );
+    let case = sim_case("too long for sim", "", OPTIONS, 2, "refused 3 at 0..0\n");
+    assert!(rt;
+        holds_with(alloc, &case, longer.as_slice())?,
+        "{}",
+        case.shows
+    );
     Ok(())
 }

@@ -32,9 +32,7 @@ ghost use Rattle.proxy_top.specs.Endings.{
   memory_line,
 };
 
-use crate::accept::{
-    a_text_is_refused_in_one_way, accepted, no_text_is_accepted_and_refused,
-};
+use crate::accept::{a_text_is_refused_in_one_way, accepted, no_text_is_accepted_and_refused};
 use crate::command::{Command, read_command};
 use crate::scenario::{ScenarioFault, read_scenario};
 use crate::script::read_script;
@@ -294,11 +292,17 @@ fn sim<F: Files>(
     let text = match files.read(alloc, script, LONGEST_SCRIPT) {
         Ok(text) => text,
         Err(FileFault::Failed) => return Ok(Ending::Unread(String::from_str(alloc, script)?)),
-        Err(FileFault::TooLong) => return Ok(Ending::Refused { kind: 3, at: NOWHERE }),
+        Err(FileFault::TooLong) => return Ok(Ending::Refused {
+            kind: 3,
+            at: NOWHERE,
+        }),
         Err(FileFault::NoMemory) => return Err(NoMemory),
     };
     let Some(answer) = read_script(text.as_slice()) else {
-        return Ok(Ending::Refused { kind: 3, at: NOWHERE });
+        return Ok(Ending::Refused {
+            kind: 3,
+            at: NOWHERE,
+        });
     };
     let lines = match files.read(alloc, scenario, LONGEST_SCENARIO) {
         Ok(lines) => lines,
