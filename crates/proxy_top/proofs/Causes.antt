@@ -1,30 +1,35 @@
--- Where the folder is told, the words and the files leave one ending, besides that of a fault.
+-- Where the folder is told, the words `sim` and the files leave one ending, besides that of a fault.
 use Rattle.std.proofs.Common.{◌≡◌, ℕ, ◌<◌, inl, inr, List, Option, Some, length, sym, ap, ◌∙◌, subst, arith}
 use Rattle.std.specs.Prelude.{IfSome, IsSomeAnd}
 use Rattle.outside_ports.specs.Counts.{Rises}
 use Rattle.outside_ports.specs.Files.{Folder, Holds, IsLonger}
+use Rattle.pv_values.specs.declared.refusal.Place.{Place}
 use Rattle.proxy_top.specs.declared.script.AnswerAll.{AnswerAll}
 use Rattle.proxy_top.specs.declared.top.Ending.{Ending}
-use Rattle.proxy_top.specs.declared.top.Ending.TheVariants.{Done, Usage, Refused, WrongLine, Unread}
-use Rattle.proxy_top.specs.Commands.{sim_words}
+use Rattle.proxy_top.specs.declared.top.Ending.TheVariants as outcome
+use Rattle.proxy_top.specs.Commands.{check_words, sim_words}
 use Rattle.proxy_top.specs.Script.{IsScript}
 use Rattle.proxy_top.specs.Scenario.{IsScenario, IsFirstWrong}
-use Rattle.proxy_top.specs.Endings.{ReadsScript, IsEnding, IsDone, IsRefused, IsWrongLine, IsEnd, Gives, status_of, Tells, IsReady, IsInNoForm, IsInWrongLine}
+use Rattle.proxy_top.specs.Endings.{ReadsScript, IsEnding, IsRun, IsRefused, IsRefusedBySim, IsWrongLine, IsEnd, Gives, status_of, Tells, IsReady, IsInNoForm, IsInWrongLine}
 use Rattle.proxy_top.proofs.Once.{scenario_not_wrong}
+
+-- no words are both commands
+pub two_commands : (words : List (List ℕ)) (checked script scenario : List ℕ) → words ≡ check_words checked → words ≡ sim_words script scenario → ⊥
+two_commands words checked script scenario h k = let both : check_words checked ≡ sim_words script scenario = sym h ∙ k in absurd (cc)
 
 same_words : (script scenario script' scenario' : List ℕ) → sim_words script scenario ≡ sim_words script' scenario'
     → (script' ≡ script) × (scenario' ≡ scenario)
 same_words script scenario script' scenario' e = (cc, cc)
 
 -- a name that is told holds one text
-held_once : (folder : Option Folder) (name name' : List ℕ) (limit : ℕ) (text text' : List ℕ) → Tells folder name limit text → name' ≡ name
+pub held_once : (folder : Option Folder) (name name' : List ℕ) (limit : ℕ) (text text' : List ℕ) → Tells folder name limit text → name' ≡ name
     → Holds folder name' text' → text' ≡ text
 held_once folder name name' limit text text' t same h =
     let there : t.files name' ≡ Some text' = subst (λ f. IfSome f (λ files. files name' ≡ Some text')) t.told h in
     let both : Some text' ≡ Some text = sym there ∙ ap t.files same ∙ t.held in cc
 
 -- a text that is told is no longer than its limit
-not_longer : (folder : Option Folder) (name name' : List ℕ) (limit : ℕ) (text : List ℕ) → Tells folder name limit text → name' ≡ name
+pub not_longer : (folder : Option Folder) (name name' : List ℕ) (limit : ℕ) (text : List ℕ) → Tells folder name limit text → name' ≡ name
     → IsLonger folder name' limit → ⊥
 not_longer folder name name' limit text t same h =
     let there : IsSomeAnd (t.files name') (λ bytes. limit < length bytes) =
@@ -33,14 +38,20 @@ not_longer folder name name' limit text t same h =
     absurd (omega (arith, long, t.short))
 
 -- a script that reads isn't refused
-not_refused : (words : List (List ℕ)) (folder : Option Folder) (script scenario text : List ℕ) (answer : AnswerAll)
-    → words ≡ sim_words script scenario → Tells folder script 1048576 text → IsScript text answer → IsRefused words folder → ⊥
-not_refused words folder script scenario text answer w t accepted r =
+not_refused_by_sim : (words : List (List ℕ)) (folder : Option Folder) (script scenario text : List ℕ) (answer : AnswerAll) (kind : ℕ) (at : Place)
+    → words ≡ sim_words script scenario → Tells folder script 1048576 text → IsScript text answer → IsRefusedBySim words folder kind at → ⊥
+not_refused_by_sim words folder script scenario text answer kind at w t accepted r =
     let same = same_words script scenario r.script r.scenario (sym w ∙ r.words_are) in
     elim r.refused [
       | inl h ↦ h.2 answer (subst (λ x. IsScript x answer) (sym (held_once folder script r.script 1048576 text h.0 t same.0 h.1)) accepted)
       | inr h ↦ not_longer folder script r.script 1048576 text t same.0 h
     ]
+
+not_refused : (words : List (List ℕ)) (folder : Option Folder) (script scenario text : List ℕ) (answer : AnswerAll) (kind : ℕ) (at : Place)
+    → words ≡ sim_words script scenario → Tells folder script 1048576 text → IsScript text answer → IsRefused words folder kind at → ⊥
+not_refused words folder script scenario text answer kind at w t accepted (inl r) = two_commands words r.file script scenario r.words_are w
+not_refused words folder script scenario text answer kind at w t accepted (inr r) =
+    not_refused_by_sim words folder script scenario text answer kind at w t accepted r
 
 -- a script in no form isn't read
 not_read : (folder : Option Folder) (script script' text : List ℕ) (answer : AnswerAll) → Tells folder script 1048576 text → script' ≡ script
@@ -60,7 +71,7 @@ not_wrong words folder r line w =
 
 -- a scenario with a wrong line isn't read
 not_done : (words : List (List ℕ)) (folder : Option Folder) (line : ℕ) (r : IsInWrongLine words folder line) (printed : List ℕ)
-    → IsDone words folder printed → ⊥
+    → IsRun words folder printed → ⊥
 not_done words folder line r printed d =
     let same = same_words r.script r.scenario d.script d.scenario (sym r.words_are ∙ d.words_are) in
     scenario_not_wrong r.lines d.arrivals d.end line
@@ -68,33 +79,36 @@ not_done words folder line r printed d =
 
 ready_in : (words : List (List ℕ)) (folder : Option Folder) (f g status : ℕ) (ending : Ending) → IsReady words folder → (Rises f g → ⊥)
     → status ≡ status_of ending → IsEnding words folder f g ending → status ≡ 0
-ready_in words folder f g status (Done printed) r still is ends = is
-ready_in words folder f g status Usage r still is ends = absurd (ends r.script r.scenario r.words_are)
-ready_in words folder f g status Refused r still is ends =
-    absurd (not_refused words folder r.script r.scenario r.text r.answer r.words_are r.held r.accepted ends)
-ready_in words folder f g status (WrongLine line) r still is ends = absurd (not_wrong words folder r line ends)
-ready_in words folder f g status (Unread name) r still is ends = absurd (still ends.rose)
+ready_in words folder f g status outcome.Accepted r still is ends = is
+ready_in words folder f g status (outcome.Ran trace) r still is ends = is
+ready_in words folder f g status outcome.Usage r still is ends = absurd (ends.no_sim r.script r.scenario r.words_are)
+ready_in words folder f g status (outcome.Refused kind at) r still is ends =
+    absurd (not_refused words folder r.script r.scenario r.text r.answer kind at r.words_are r.held r.accepted ends)
+ready_in words folder f g status (outcome.WrongLine other) r still is ends = absurd (not_wrong words folder r other ends)
+ready_in words folder f g status (outcome.Unread name) r still is ends = absurd (still ends.rose)
 
 no_form_in : (words : List (List ℕ)) (folder : Option Folder) (f g status : ℕ) (ending : Ending) → IsInNoForm words folder → (Rises f g → ⊥)
     → status ≡ status_of ending → IsEnding words folder f g ending → status ≡ 2
-no_form_in words folder f g status (Done printed) r still is ends =
+no_form_in words folder f g status outcome.Accepted r still is ends = absurd (two_commands words ends.file r.script r.scenario ends.words_are r.words_are)
+no_form_in words folder f g status (outcome.Ran trace) r still is ends =
     let same = same_words r.script r.scenario ends.script ends.scenario (sym r.words_are ∙ ends.words_are) in
     absurd (not_read folder r.script ends.script r.text ends.answer r.held same.0 r.refused ends.accepted)
-no_form_in words folder f g status Usage r still is ends = absurd (ends r.script r.scenario r.words_are)
-no_form_in words folder f g status Refused r still is ends = is
-no_form_in words folder f g status (WrongLine line) r still is ends =
+no_form_in words folder f g status outcome.Usage r still is ends = absurd (ends.no_sim r.script r.scenario r.words_are)
+no_form_in words folder f g status (outcome.Refused kind at) r still is ends = is
+no_form_in words folder f g status (outcome.WrongLine other) r still is ends =
     let same = same_words r.script r.scenario ends.script ends.scenario (sym r.words_are ∙ ends.words_are) in
     absurd (not_read folder r.script ends.script r.text ends.answer r.held same.0 r.refused ends.accepted)
-no_form_in words folder f g status (Unread name) r still is ends = absurd (still ends.rose)
+no_form_in words folder f g status (outcome.Unread name) r still is ends = absurd (still ends.rose)
 
 wrong_in : (words : List (List ℕ)) (folder : Option Folder) (f g status line : ℕ) (ending : Ending) → IsInWrongLine words folder line → (Rises f g → ⊥)
     → status ≡ status_of ending → IsEnding words folder f g ending → status ≡ 3
-wrong_in words folder f g status line (Done printed) r still is ends = absurd (not_done words folder line r printed.items ends)
-wrong_in words folder f g status line Usage r still is ends = absurd (ends r.script r.scenario r.words_are)
-wrong_in words folder f g status line Refused r still is ends =
-    absurd (not_refused words folder r.script r.scenario r.text r.answer r.words_are r.held r.accepted ends)
-wrong_in words folder f g status line (WrongLine other) r still is ends = is
-wrong_in words folder f g status line (Unread name) r still is ends = absurd (still ends.rose)
+wrong_in words folder f g status line outcome.Accepted r still is ends = absurd (two_commands words ends.file r.script r.scenario ends.words_are r.words_are)
+wrong_in words folder f g status line (outcome.Ran trace) r still is ends = absurd (not_done words folder line r trace.items ends)
+wrong_in words folder f g status line outcome.Usage r still is ends = absurd (ends.no_sim r.script r.scenario r.words_are)
+wrong_in words folder f g status line (outcome.Refused kind at) r still is ends =
+    absurd (not_refused words folder r.script r.scenario r.text r.answer kind at r.words_are r.held r.accepted ends)
+wrong_in words folder f g status line (outcome.WrongLine other) r still is ends = is
+wrong_in words folder f g status line (outcome.Unread name) r still is ends = absurd (still ends.rose)
 
 pub ready : (words : List (List ℕ)) (folder : Option Folder) (f g : ℕ) (old new : Option (List ℕ)) (c d status : ℕ)
     → IsEnd words folder f g old new c d status → IsReady words folder → Gives 0 f g c d status

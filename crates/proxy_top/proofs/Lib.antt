@@ -6,6 +6,8 @@ mod Sound
 mod Pieces
 mod Run
 mod Scripts
-mod Three
+mod Items
+mod Texts
 mod Statuses
 mod Causes
+mod Checks

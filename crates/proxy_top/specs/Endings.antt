@@ -1,18 +1,71 @@
 -- How a command ends: what holds of its words and files, the status, and what is printed.
-use Rattle.std.specs.Prelude.{◌≡◌, ℕ, ◌≤◌, ◌⊎◌, List, [], ◌∷◌, ◌++◌, Option, Some, length, codes}
+use Rattle.std.specs.Prelude.{◌≡◌, ◌≢◌, ℕ, ◌<◌, ◌≤◌, ◌⊎◌, List, [], ◌∷◌, ◌++◌, Option, Some, length, codes}
 use Rattle.std.specs.Fmt.{decimal}
 use Rattle.std.specs.String.{string_bytes}
 use Rattle.outside_ports.specs.Counts.{Rises}
 use Rattle.outside_ports.specs.Files.{Folder, Holds, IsLonger}
 use Rattle.outside_ports.specs.Told.{Grows}
 use Rattle.outside_ports.specs.declared.mem_port.Arrival.{Arrival}
+use Rattle.pv_values.specs.declared.refusal.Place.{Place}
+use Rattle.cfg_tree.specs.declared.script.Script.{Script}
 use Rattle.proxy_top.specs.declared.script.AnswerAll.{AnswerAll}
 use Rattle.proxy_top.specs.declared.top.Ending.{Ending}
-use Rattle.proxy_top.specs.declared.top.Ending.TheVariants.{Done, Usage, Refused, WrongLine, Unread}
-use Rattle.proxy_top.specs.Commands.{sim_words, IsNoCommand}
+use Rattle.proxy_top.specs.declared.top.Ending.TheVariants as outcome
+use Rattle.proxy_top.specs.Accept.{AcceptsText, RefusesText}
+use Rattle.proxy_top.specs.Commands.{check_words, sim_words, IsNoCommand}
 use Rattle.proxy_top.specs.Script.{IsScript}
 use Rattle.proxy_top.specs.Scenario.{IsScenario, IsFirstWrong}
 use Rattle.proxy_top.specs.Solo.{solo, trace}
+
+abbrev pub place : ℕ → ℕ → Place
+place from to = record { from = from; to = to }
+
+-- ---- what is printed
+
+abbrev pub accepted_line : List ℕ
+accepted_line = codes "accepted\n"
+
+abbrev pub usage_line : List ℕ
+usage_line = codes "usage: sipscript check FILE, sim FILE SCENARIO, load N, serve FILE [options]\n"
+
+-- refused KIND at FROM..TO
+abbrev pub refused_line : ℕ → Place → List ℕ
+refused_line kind at =
+    codes "refused " ++ (decimal kind ++ (codes " at " ++ (decimal at.from ++ (codes ".." ++ (decimal at.to ++ 10 ∷ [])))))
+
+abbrev pub wrong_line : ℕ → List ℕ
+wrong_line line = codes "scenario line " ++ (decimal line ++ 10 ∷ [])
+
+abbrev pub unread_line : List ℕ → List ℕ
+unread_line name = codes "cannot read " ++ (name ++ 10 ∷ [])
+
+abbrev pub memory_line : List ℕ
+memory_line = codes "out of memory\n"
+
+-- ---- how the command `check` ends
+
+-- the words are `check`, and the file holds a text that is accepted
+pub record IsAccepted (words : List (List ℕ)) (folder : Option Folder) : Type 0 where
+  pub file : List ℕ
+  pub words_are : words ≡ check_words file
+  pub text : List ℕ
+  pub held : Holds folder file text
+  pub script : Script
+  pub accepted : AcceptsText text script
+
+-- this file is refused: it holds a text of at most 1 MiB that is refused so, or it is longer
+abbrev pub RefusesFile : Option Folder → List ℕ → ℕ → Place → Type 0
+RefusesFile folder file kind at =
+    ((text : List ℕ) × Holds folder file text × (length text ≤ 1048576) × RefusesText text kind at)
+    ⊎ (IsLonger folder file 1048576 × (kind ≡ 13) × (at ≡ place 1048576 1048577))
+
+-- the words are `check`, and the file is refused with this kind at this place
+pub record IsRefusedByCheck (words : List (List ℕ)) (folder : Option Folder) (kind : ℕ) (at : Place) : Type 0 where
+  pub file : List ℕ
+  pub words_are : words ≡ check_words file
+  pub refused : RefusesFile folder file kind at
+
+-- ---- how the command `sim` ends
 
 -- the file of this name has these bytes, which are a script with this answer
 pub record ReadsScript (folder : Option Folder) (name : List ℕ) (answer : AnswerAll) : Type 0 where
@@ -21,7 +74,7 @@ pub record ReadsScript (folder : Option Folder) (name : List ℕ) (answer : Answ
   pub script : IsScript text answer
 
 -- the words are `sim`, the script and the scenario read, and this is the trace of the solo run
-pub record IsDone (words : List (List ℕ)) (folder : Option Folder) (printed : List ℕ) : Type 0 where
+pub record IsRun (words : List (List ℕ)) (folder : Option Folder) (printed : List ℕ) : Type 0 where
   pub script : List ℕ
   pub scenario : List ℕ
   pub words_are : words ≡ sim_words script scenario
@@ -34,11 +87,13 @@ pub record IsDone (words : List (List ℕ)) (folder : Option Folder) (printed : 
   pub reads : IsScenario text arrivals end
   pub trace_is : printed ≡ trace (solo answer arrivals) end
 
--- the words are `sim`, and the script is in no form, or longer than 1 MiB
-pub record IsRefused (words : List (List ℕ)) (folder : Option Folder) : Type 0 where
+-- the words are `sim`, and the script is in no form, or longer than 1 MiB: that is kind 3 at 0..0
+pub record IsRefusedBySim (words : List (List ℕ)) (folder : Option Folder) (kind : ℕ) (at : Place) : Type 0 where
   pub script : List ℕ
   pub scenario : List ℕ
   pub words_are : words ≡ sim_words script scenario
+  pub kind_is : kind ≡ 3
+  pub at_is : at ≡ place 0 0
   pub refused : ((text : List ℕ) × Holds folder script text × ((answer : AnswerAll) → IsScript text answer → ⊥)) ⊎ IsLonger folder script 1048576
 
 -- the words are `sim` with a script that reads, and this line of the scenario is the first in no form, or 0 where the
@@ -51,49 +106,49 @@ pub record IsWrongLine (words : List (List ℕ)) (folder : Option Folder) (line 
   pub accepted : ReadsScript folder script answer
   pub wrong : ((text : List ℕ) × Holds folder scenario text × IsFirstWrong text line) ⊎ ((line ≡ 0) × IsLonger folder scenario 4194304)
 
--- the words are `sim`, and the file of one of the two names was not read: the count of faults rose
+-- ---- how a command ends
+
+-- the command is done, and this is what it prints
+abbrev pub IsDone : List (List ℕ) → Option Folder → List ℕ → Type 0
+IsDone words folder printed = (IsAccepted words folder × (printed ≡ accepted_line)) ⊎ IsRun words folder printed
+
+-- the script is refused with this kind at this place
+abbrev pub IsRefused : List (List ℕ) → Option Folder → ℕ → Place → Type 0
+IsRefused words folder kind at = IsRefusedByCheck words folder kind at ⊎ IsRefusedBySim words folder kind at
+
+-- the words name a file so
+abbrev pub NamesFile : List (List ℕ) → List ℕ → Type 0
+NamesFile words name =
+    (words ≡ check_words name) ⊎ ((other : List ℕ) × ((words ≡ sim_words name other) ⊎ (words ≡ sim_words other name)))
+
+-- the file of this name was not read: the count of faults rose
 pub record IsUnread (words : List (List ℕ)) (old_faults new_faults : ℕ) (name : List ℕ) : Type 0 where
-  pub script : List ℕ
-  pub scenario : List ℕ
-  pub words_are : words ≡ sim_words script scenario
-  pub name_is : (name ≡ script) ⊎ (name ≡ scenario)
+  pub names : NamesFile words name
   pub rose : Rises old_faults new_faults
 
 abbrev pub IsEnding : List (List ℕ) → Option Folder → ℕ → ℕ → Ending → Type 0
-IsEnding words folder old_faults new_faults (Done printed) = IsDone words folder printed.items
-IsEnding words folder old_faults new_faults Usage = IsNoCommand words
-IsEnding words folder old_faults new_faults Refused = IsRefused words folder
-IsEnding words folder old_faults new_faults (WrongLine line) = IsWrongLine words folder line
-IsEnding words folder old_faults new_faults (Unread name) = IsUnread words old_faults new_faults (string_bytes name)
+IsEnding words folder old_faults new_faults outcome.Accepted = IsAccepted words folder
+IsEnding words folder old_faults new_faults (outcome.Ran text) = IsRun words folder text.items
+IsEnding words folder old_faults new_faults outcome.Usage = IsNoCommand words
+IsEnding words folder old_faults new_faults (outcome.Refused kind at) = IsRefused words folder kind at
+IsEnding words folder old_faults new_faults (outcome.WrongLine line) = IsWrongLine words folder line
+IsEnding words folder old_faults new_faults (outcome.Unread name) = IsUnread words old_faults new_faults (string_bytes name)
 
 abbrev pub status_of : Ending → ℕ
-status_of (Done printed) = 0
-status_of Usage = 1
-status_of Refused = 2
-status_of (WrongLine line) = 3
-status_of (Unread name) = 4
-
-abbrev pub usage_line : List ℕ
-usage_line = codes "usage: sipscript check FILE, sim FILE SCENARIO, load N, serve FILE [options]\n"
-
-abbrev pub refused_line : List ℕ
-refused_line = codes "refused 3 at 0..0\n"
-
-abbrev pub wrong_line : ℕ → List ℕ
-wrong_line line = codes "scenario line " ++ (decimal line ++ 10 ∷ [])
-
-abbrev pub unread_line : List ℕ → List ℕ
-unread_line name = codes "cannot read " ++ (name ++ 10 ∷ [])
-
-abbrev pub memory_line : List ℕ
-memory_line = codes "out of memory\n"
+status_of outcome.Accepted = 0
+status_of (outcome.Ran text) = 0
+status_of outcome.Usage = 1
+status_of (outcome.Refused kind at) = 2
+status_of (outcome.WrongLine line) = 3
+status_of (outcome.Unread name) = 4
 
 abbrev pub text_of : Ending → List ℕ
-text_of (Done printed) = printed.items
-text_of Usage = usage_line
-text_of Refused = refused_line
-text_of (WrongLine line) = wrong_line line
-text_of (Unread name) = unread_line (string_bytes name)
+text_of outcome.Accepted = accepted_line
+text_of (outcome.Ran text) = text.items
+text_of outcome.Usage = usage_line
+text_of (outcome.Refused kind at) = refused_line kind at
+text_of (outcome.WrongLine line) = wrong_line line
+text_of (outcome.Unread name) = unread_line (string_bytes name)
 
 -- nothing was printed, and the console's count of faults rose
 pub record Fails (old new : Option (List ℕ)) (old_faults new_faults status : ℕ) : Type 0 where
@@ -138,6 +193,37 @@ pub record Tells (folder : Option Folder) (name : List ℕ) (limit : ℕ) (text 
   pub told : folder ≡ Some files
   pub held : files name ≡ Some text
   pub short : length text ≤ limit
+
+-- the words are `check`, and the file is told to hold a text that is accepted
+pub record IsToAccept (words : List (List ℕ)) (folder : Option Folder) : Type 0 where
+  pub file : List ℕ
+  pub words_are : words ≡ check_words file
+  pub text : List ℕ
+  pub held : Tells folder file 1048576 text
+  pub script : Script
+  pub accepted : AcceptsText text script
+
+-- the words are `check`, and the file is told to hold a text that is refused with this kind at this place
+pub record IsToRefuse (words : List (List ℕ)) (folder : Option Folder) (kind : ℕ) (at : Place) : Type 0 where
+  pub file : List ℕ
+  pub words_are : words ≡ check_words file
+  pub text : List ℕ
+  pub held : Tells folder file 1048576 text
+  pub refused : RefusesText text kind at
+
+-- the words are `check`, and the file is told to be longer than 1 MiB
+pub record IsTooLong (words : List (List ℕ)) (folder : Option Folder) : Type 0 where
+  pub file : List ℕ
+  pub words_are : words ≡ check_words file
+  pub files : Folder
+  pub told : folder ≡ Some files
+  pub text : List ℕ
+  pub held : files file ≡ Some text
+  pub long : 1048576 < length text
+
+-- printed was a refusal of this kind, which, unless it is Syntax, begins at this byte
+abbrev pub PrintsRefusal : ℕ → Place → Option (List ℕ) → Option (List ℕ) → Type 0
+PrintsRefusal kind at old new = (p : Place) × (kind ≢ 3 → p.from ≡ at.from) × Grows old new (refused_line kind p)
 
 -- the words are `sim`, and both files read
 pub record IsReady (words : List (List ℕ)) (folder : Option Folder) : Type 0 where

@@ -6,5 +6,6 @@ pub mod Pieces
 pub mod Solo
 pub mod Handled
 pub mod Script
+pub mod Accept
 pub mod Commands
 pub mod Endings

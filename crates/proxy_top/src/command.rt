@@ -6,6 +6,8 @@ ghost use Rattle.proxy_top.specs.Commands.{words_of, IsNoCommand, IsCommand};
 /// What the words ask for.
 #[derive(Clone, Copy)]
 pub enum Command<'a> {
+    /// `check FILE`
+    Check { script: &'a str },
     /// `sim FILE SCENARIO`
     Sim { script: &'a str, scenario: &'a str },
 }
@@ -16,6 +18,11 @@ pub fn read_command(words: &[String]) -> Option<Command<'_>>
     ensures none { IfNone result (IsNoCommand (words_of words.entry.now)) }
 {
     match words {
+        [command, script] if command.as_str() == "check" => {
+            Some(Command::Check {
+                script: script.as_str(),
+            })
+        }
         [command, script, scenario] if command.as_str() == "sim" => {
             Some(Command::Sim {
                 script: script.as_str(),

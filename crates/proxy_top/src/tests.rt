@@ -62,6 +62,43 @@ drop 5 not_sip
 end 86400000 live 0
 ";
 
+/// A registration carries on the messages that are held.
+const HOLDING: &str = r#"modparam("htable","htable","w=>size=8;autoexpire=120")
+request_route {
+  if (is_method("REGISTER")) {
+    t_continue("$sht(w=>i$ci)", "$sht(w=>l$ci)", "BACK");
+    sl_send_reply("200", "$rc");
+    exit;
+  }
+  t_suspend();
+  $sht(w=>i$ci) = $T(id_index);
+  $sht(w=>l$ci) = $T(id_label);
+}
+route[BACK] { t_reply("200", "OK"); }
+"#;
+
+/// A usual script of a proxy.
+const USUAL: &str = r#"#!KAMAILIO
+listen=udp:127.0.0.1:5060
+loadmodule "tm.so"
+loadmodule "rr.so"
+request_route {
+  if (!mf_process_maxfwd_header("10")) { sl_send_reply("483", "Too Many Hops"); exit; }
+  if (is_method("CANCEL")) { if (t_check_trans()) t_relay(); exit; }
+  if (has_totag()) {
+    if (loose_route()) { t_relay(); exit; }
+    if (is_method("ACK")) { if (t_check_trans()) t_relay(); exit; }
+    sl_send_reply("404", "Not here"); exit;
+  }
+  if (is_method("INVITE")) { record_route(); t_on_failure("VM"); }
+  if (!t_relay()) sl_send_reply("500", "Relay error");
+}
+failure_route[VM] {
+  if (t_is_canceled()) exit;
+  if (t_check_status("486|408")) { $du = "sip:192.0.2.8"; t_relay(); }
+}
+"#;
+
 const USAGE: &str =
     "usage: sipscript check FILE, sim FILE SCENARIO, load N, serve FILE [options]\n";
 
@@ -97,14 +134,28 @@ fn sim_case<'a>(
     }
 }
 
+const CHECK: [&str; 2] = ["check", "a"];
+
+fn check_case<'a>(shows: &'a str, script: &'a str, status: u8, printed: &'a str) -> Case<'a> {
+    Case {
+        words: &CHECK,
+        ..sim_case(shows, script, "", status, printed)
+    }
+}
+
 /// Whether the case ends as it says.
 fn holds(alloc: Global, case: &Case<'_>) -> Result<bool, Fail> {
+    holds_with(alloc, case, case.script.as_bytes())
+}
+
+/// Whether the case ends as it says, with these bytes as its script.
+fn holds_with(alloc: Global, case: &Case<'_>, script: &[u8]) -> Result<bool, Fail> {
     let mut words = Vec::new(alloc);
     for word in case.words {
         words.push(String::from_str(alloc, word)?)?;
     }
     let mut list = Vec::new(alloc);
-    let script = Vec::from_slice(alloc, case.script.as_bytes())?;
+    let script = Vec::from_slice(alloc, script)?;
     list.push((String::from_str(alloc, "a")?, script))?;
     let scenario = Vec::from_slice(alloc, case.scenario.as_bytes())?;
     list.push((String::from_str(alloc, "s")?, scenario))?;
@@ -243,6 +294,14 @@ fn words_files_and_consoles_that_fail(rt: HostRuntime) -> Result<(), Fail> {
         words(&["sim", "a", "s", "t"]),
         unread(&["sim", "b", "s"], "cannot read b\n"),
         unread(&["sim", "a", "c d"], "cannot read c d\n"),
+        words(&["check"]),
+        words(&["check", "a", "s"]),
+        words(&["sim", "check", "a", "s"]),
+        unread(&["check", "c d"], "cannot read c d\n"),
+        Case {
+            fail_print: &[1],
+            ..check_case("the refusal isn't printed", "", 5, "")
+        },
         Case {
             fail_print: &[1],
             ..sim_case("the first print fails", SCRIPT, OPTIONS, 5, "")
@@ -256,5 +315,99 @@ fn words_files_and_consoles_that_fail(rt: HostRuntime) -> Result<(), Fail> {
     for case in &cases {
         assert!(rt; holds(rt.alloc(), case)?, "{}", case.shows);
     }
+    Ok(())
+}
+
+#[test]
+fn texts_that_have_no_tree(rt: HostRuntime) -> Result<(), Fail> {
+    let cases = [
+        check_case(
+            "a stray byte",
+            "request_route { @ }",
+            2,
+            "refused 1 at 16..17\n",
+        ),
+        check_case(
+            "an open string",
+            "request_route { xlog(\"a",
+            2,
+            "refused 2 at 21..23\n",
+        ),
+        check_case("no block", "request_route }", 2, "refused 3 at 14..15\n"),
+        check_case(
+            "an open block",
+            "request_route {",
+            2,
+            "refused 3 at 15..15\n",
+        ),
+    ];
+    for case in &cases {
+        assert!(rt; holds(rt.alloc(), case)?, "{}", case.shows);
+    }
+    Ok(())
+}
+
+#[test]
+fn scripts_that_are_checked(rt: HostRuntime) -> Result<(), Fail> {
+    let cases = [
+        check_case("the usual script", USUAL, 0, "accepted\n"),
+        check_case("held messages", HOLDING, 0, "accepted\n"),
+        check_case("the shortest", "request_route{}", 0, "accepted\n"),
+        check_case(
+            "a route twice",
+            "route[A]{}\nroute[A]{}\nrequest_route{}",
+            2,
+            "refused 5 at 17..18\n",
+        ),
+        check_case(
+            "a function in a wrong block",
+            "event_route[x]{t_relay();}\nrequest_route{}",
+            2,
+            "refused 7 at 15..22\n",
+        ),
+        check_case(
+            "a string that is no pattern",
+            "request_route{if($ru=~\"(\"){}}",
+            2,
+            "refused 12 at 22..25\n",
+        ),
+        check_case("no request route", "", 2, "refused 14 at 0..0\n"),
+        check_case(
+            "an unknown module",
+            "loadmodule \"usrloc.so\"\nrequest_route{}",
+            2,
+            "refused 15 at 11..22\n",
+        ),
+    ];
+    for case in &cases {
+        assert!(rt; holds(rt.alloc(), case)?, "{}", case.shows);
+    }
+    Ok(())
+}
+
+#[test]
+fn scripts_round_the_longest(rt: HostRuntime) -> Result<(), Fail> {
+    let alloc = rt.alloc();
+    // No token begins with the byte.
+    let longest = vec![in alloc; b'@'; 1_048_576]?;
+    let case = check_case("the longest", "", 2, "refused 1 at 0..1\n");
+    assert!(rt;
+        holds_with(alloc, &case, longest.as_slice())?,
+        "{}",
+        case.shows
+    );
+    let longer = vec![in alloc; b'@'; 1_048_577]?;
+    let case = check_case("one byte more", "", 2, "refused 13 at 1048576..1048577\n");
+    assert!(rt;
+        holds_with(alloc, &case, longer.as_slice())?,
+        "{}",
+        case.shows
+    );
+    let case = sim_case("too long for sim", "", OPTIONS, 2, "refused 3 at 0..0\n");
+    assert!(rt;
+        holds_with(alloc, &case, longer.as_slice())?,
+        "{}",
+        case.shows
+    );
     Ok(())
 }

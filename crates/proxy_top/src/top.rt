@@ -3,7 +3,8 @@
 ghost use Rattle.std.specs.Prelude.{◌≡◌, ◌≤◌, ◌⊎◌, [], ℕ, List, IfOk};
 ghost use Rattle.outside_ports.specs.Counts.{Rises};
 ghost use Rattle.outside_ports.specs.Told.{Grows};
-ghost use Rattle.proxy_top.specs.Commands.{words_of, sim_words, IsNoCommand};
+ghost use Rattle.pv_values.specs.declared.refusal.Place.{Place};
+ghost use Rattle.proxy_top.specs.Commands.{words_of, check_words, sim_words, IsNoCommand};
 ghost use Rattle.proxy_top.specs.Endings.{
   IsEnding,
   IsDone,
@@ -14,9 +15,14 @@ ghost use Rattle.proxy_top.specs.Endings.{
   IsEnd,
   IsStatus,
   Gives,
+  IsToAccept,
+  IsToRefuse,
+  IsTooLong,
+  PrintsRefusal,
   IsInNoForm,
   IsInWrongLine,
   IsReady,
+  place,
   status_of,
   text_of,
   usage_line,
@@ -26,12 +32,14 @@ ghost use Rattle.proxy_top.specs.Endings.{
   memory_line,
 };
 
+use crate::accept::{a_text_is_refused_in_one_way, accepted, no_text_is_accepted_and_refused};
 use crate::command::{Command, read_command};
 use crate::scenario::{ScenarioFault, read_scenario};
 use crate::script::read_script;
 use crate::sim::run_sim;
 use numerals::push_number;
 use outside_ports::{Console, FileFault, Files, PrintEnd};
+use pv_values::{Place, ScriptFault};
 use std::alloc::{AllocError as NoMemory, Global};
 
 /// The longest script, in bytes.
@@ -40,13 +48,25 @@ const LONGEST_SCRIPT: usize = 1 << 20;
 /// The longest scenario, in bytes.
 const LONGEST_SCENARIO: usize = 4 << 20;
 
+/// Where a script that is too long is refused: its length isn't known.
+const PAST_LONGEST: Place = Place {
+    from: LONGEST_SCRIPT,
+    to: LONGEST_SCRIPT + 1,
+};
+
+/// Where `sim` refuses a script that is in no form.
+const NOWHERE: Place = Place { from: 0, to: 0 };
+
 /// How a command ended.
 enum Ending {
-    Done(Vec<u8>),
+    /// `check`: the script is accepted.
+    Accepted,
+    /// `sim`: the trace of the run.
+    Ran(Vec<u8>),
     /// The words are no command.
     Usage,
-    /// The script isn't accepted.
-    Refused,
+    /// The script is refused.
+    Refused { kind: u8, at: Place },
     /// The first line of the scenario that is in no form; 0 where the scenario is too long.
     WrongLine(u64),
     /// The file of this name can't be read.
@@ -57,14 +77,17 @@ enum Ending {
 ///
 /// | status | comes | printed line |
 /// |-|-|-|
-/// | 0 | the command is done | the trace of `sim` |
+/// | 0 | the command is done | `accepted` of `check`, the trace of `sim` |
 /// | 1 | the words are in no form | `usage: ..` |
 /// | 2 | the script isn't accepted | `refused KIND at FROM..TO` |
 /// | 3 | that line of the scenario is the first in no form | `scenario line N` |
 /// | 4 | a file couldn't be read | `cannot read NAME` |
 /// | 5 | the console failed | |
 /// | 8 | no memory was found | `out of memory`, or nothing |
-#[tactic(auto, using(crate::proofs::Statuses::done, crate::proofs::Statuses::usage, crate::proofs::Statuses::refused, crate::proofs::Statuses::in_wrong_line, crate::proofs::Statuses::unread, crate::proofs::Statuses::failed, crate::proofs::Statuses::memory, crate::proofs::Statuses::known, crate::proofs::Statuses::no_command, crate::proofs::Causes::no_form))]
+///
+/// A script of more than 1,048,576 bytes is refused by `check` with kind 13 at 1048576..1048577. Each script that `sim`
+/// refuses is of kind 3 at 0..0. Of a refusal of kind 3 by `check` no clause says the place.
+#[tactic(auto, using(crate::proofs::Statuses::done, crate::proofs::Statuses::usage, crate::proofs::Statuses::refused, crate::proofs::Statuses::in_wrong_line, crate::proofs::Statuses::unread, crate::proofs::Statuses::failed, crate::proofs::Statuses::memory, crate::proofs::Statuses::known, crate::proofs::Statuses::no_command, crate::proofs::Causes::no_form, crate::proofs::Checks::too_long, crate::proofs::Checks::too_long_line))]
 pub fn simulate<F: Files, C: Console>(
     alloc: Global,
     words: &[String],
@@ -75,8 +98,8 @@ pub fn simulate<F: Files, C: Console>(
         × Grows (C.printed console.old) (C.printed console.new) text }
     ensures usage { result ≡ 1 → IsNoCommand (words_of words.now)
         × Grows (C.printed console.old) (C.printed console.new) usage_line }
-    ensures refused { result ≡ 2 → IsRefused (words_of words.now) (F.folder files.old)
-        × Grows (C.printed console.old) (C.printed console.new) refused_line }
+    ensures refused { result ≡ 2 → (kind : ℕ) × (at : Place) × IsRefused (words_of words.now) (F.folder files.old) kind at
+        × Grows (C.printed console.old) (C.printed console.new) (refused_line kind at) }
     ensures wrong_line { result ≡ 3 → (line : ℕ) × IsWrongLine (words_of words.now) (F.folder files.old) line
         × Grows (C.printed console.old) (C.printed console.new) (wrong_line line) }
     ensures unread { result ≡ 4 → (name : List ℕ) × IsUnread (words_of words.now) (F.faults files.old) (F.faults files.new) name
@@ -86,18 +109,35 @@ pub fn simulate<F: Files, C: Console>(
     ensures memory { result ≡ 8 → Grows (C.printed console.old) (C.printed console.new) memory_line
         ⊎ Grows (C.printed console.old) (C.printed console.new) [] }
     ensures known { IsStatus result }
+
+    // Where no count of faults rose, words and files that are told leave one status, but for want of memory.
     ensures no_command { IsNoCommand (words_of words.now)
         → Gives 1 (F.faults files.old) (F.faults files.new) (C.faults console.old) (C.faults console.new) result }
+    ensures check_accepts { IsToAccept (words_of words.now) (F.folder files.old)
+        → Gives 0 (F.faults files.old) (F.faults files.new) (C.faults console.old) (C.faults console.new) result }
+    ensures check_refuses { (kind : ℕ) (at : Place) → IsToRefuse (words_of words.now) (F.folder files.old) kind at
+        → Gives 2 (F.faults files.old) (F.faults files.new) (C.faults console.old) (C.faults console.new) result }
+    ensures check_too_long { IsTooLong (words_of words.now) (F.folder files.old)
+        → Gives 2 (F.faults files.old) (F.faults files.new) (C.faults console.old) (C.faults console.new) result }
     ensures no_form { IsInNoForm (words_of words.now) (F.folder files.old)
         → Gives 2 (F.faults files.old) (F.faults files.new) (C.faults console.old) (C.faults console.new) result }
     ensures in_wrong_line { (line : ℕ) → IsInWrongLine (words_of words.now) (F.folder files.old) line
         → Gives 3 (F.faults files.old) (F.faults files.new) (C.faults console.old) (C.faults console.new) result }
     ensures ready { IsReady (words_of words.now) (F.folder files.old)
         → Gives 0 (F.faults files.old) (F.faults files.new) (C.faults console.old) (C.faults console.new) result }
+
+    // What a refusal by `check` prints, where the file is told.
+    ensures refused_by_check { (kind : ℕ) (at : Place) → IsToRefuse (words_of words.now) (F.folder files.old) kind at
+        → result ≡ 2 → PrintsRefusal kind at (C.printed console.old) (C.printed console.new) }
+    ensures refused_too_long { IsTooLong (words_of words.now) (F.folder files.old)
+        → result ≡ 2 → Grows (C.printed console.old) (C.printed console.new) (refused_line 13 (place 1048576 1048577)) }
+
     ensures same { F.folder files.new ≡ F.folder files.old }
     ensures files_never_fall { F.faults files.old ≤ F.faults files.new }
     ensures console_never_falls { C.faults console.old ≤ C.faults console.new }
 {
+    no_text_is_accepted_and_refused();
+    a_text_is_refused_in_one_way();
     run_and_print(alloc, words, files, console)
 }
 
@@ -151,9 +191,9 @@ impl Ending {
         ensures { result ≡ status_of self.now }
     {
         match self {
-            Ending::Done(_) => 0,
+            Ending::Accepted | Ending::Ran(_) => 0,
             Ending::Usage => 1,
-            Ending::Refused => 2,
+            Ending::Refused { .. } => 2,
             Ending::WrongLine(_) => 3,
             Ending::Unread(_) => 4,
         }
@@ -163,9 +203,10 @@ impl Ending {
         ensures { IfOk result (λ text. text.items ≡ text_of self) }
     {
         match self {
-            Ending::Done(trace) => Ok(trace),
+            Ending::Accepted => Vec::from_slice(alloc, b"accepted\n"),
+            Ending::Ran(trace) => Ok(trace),
             Ending::Usage => Vec::from_slice(alloc, USAGE),
-            Ending::Refused => Vec::from_slice(alloc, b"refused 3 at 0..0\n"),
+            Ending::Refused { kind, at } => refused_line(alloc, kind, at),
             Ending::WrongLine(number) => {
                 let mut text = Vec::from_slice(alloc, b"scenario line ")?;
                 push_number(alloc, &mut text, number)?;
@@ -182,6 +223,20 @@ impl Ending {
     }
 }
 
+/// `refused KIND at FROM..TO`
+fn refused_line(alloc: Global, kind: u8, at: Place) -> Result<Vec<u8>, NoMemory>
+    ensures { IfOk result (λ text. text.items ≡ refused_line kind at) }
+{
+    let mut text = Vec::from_slice(alloc, b"refused ")?;
+    push_number(alloc, &mut text, u64::from(kind))?;
+    text.extend_from_slice(b" at ")?;
+    push_number(alloc, &mut text, at.from as u64)?;
+    text.extend_from_slice(b"..")?;
+    push_number(alloc, &mut text, at.to as u64)?;
+    text.push(b'\n')?;
+    Ok(text)
+}
+
 const OUT_OF_MEMORY: &[u8] = b"out of memory\n";
 
 const USAGE: &[u8] =
@@ -193,8 +248,33 @@ fn run_command<F: Files>(alloc: Global, words: &[String], files: &mut F) -> Resu
     ensures never_falls { F.faults files.old ≤ F.faults files.new }
 {
     match read_command(words) {
+        Some(Command::Check { script }) => check(alloc, script, files),
         Some(Command::Sim { script, scenario }) => sim(alloc, script, scenario, files),
         None => Ok(Ending::Usage),
+    }
+}
+
+/// `check FILE`: the script file, then the script.
+fn check<F: Files>(alloc: Global, script: &str, files: &mut F) -> Result<Ending, NoMemory>
+    ensures ended { IfOk result (IsEnding (check_words script.now) (F.folder files.old) (F.faults files.old) (F.faults files.new)) }
+    ensures same { F.folder files.new ≡ F.folder files.old }
+    ensures never_falls { F.faults files.old ≤ F.faults files.new }
+{
+    let text = match files.read(alloc, script, LONGEST_SCRIPT) {
+        Ok(text) => text,
+        Err(FileFault::Failed) => return Ok(Ending::Unread(String::from_str(alloc, script)?)),
+        Err(FileFault::TooLong) => {
+            return Ok(Ending::Refused {
+                kind: 13,
+                at: PAST_LONGEST,
+            });
+        }
+        Err(FileFault::NoMemory) => return Err(NoMemory),
+    };
+    match accepted(alloc, text.as_slice()) {
+        Ok(_) => Ok(Ending::Accepted),
+        Err(ScriptFault::Refused { kind, at }) => Ok(Ending::Refused { kind, at }),
+        Err(ScriptFault::NoMemory) => Err(NoMemory),
     }
 }
 
@@ -212,11 +292,17 @@ fn sim<F: Files>(
     let text = match files.read(alloc, script, LONGEST_SCRIPT) {
         Ok(text) => text,
         Err(FileFault::Failed) => return Ok(Ending::Unread(String::from_str(alloc, script)?)),
-        Err(FileFault::TooLong) => return Ok(Ending::Refused),
+        Err(FileFault::TooLong) => return Ok(Ending::Refused {
+            kind: 3,
+            at: NOWHERE,
+        }),
         Err(FileFault::NoMemory) => return Err(NoMemory),
     };
     let Some(answer) = read_script(text.as_slice()) else {
-        return Ok(Ending::Refused);
+        return Ok(Ending::Refused {
+            kind: 3,
+            at: NOWHERE,
+        });
     };
     let lines = match files.read(alloc, scenario, LONGEST_SCENARIO) {
         Ok(lines) => lines,
@@ -225,7 +311,7 @@ fn sim<F: Files>(
         Err(FileFault::NoMemory) => return Err(NoMemory),
     };
     match read_scenario(alloc, lines.as_slice()) {
-        Ok(scenario) => Ok(Ending::Done(run_sim(alloc, answer, scenario)?)),
+        Ok(scenario) => Ok(Ending::Ran(run_sim(alloc, answer, scenario)?)),
         Err(ScenarioFault::Line(number)) => Ok(Ending::WrongLine(number)),
         Err(ScenarioFault::NoMemory) => Err(NoMemory),
     }
