@@ -9,7 +9,7 @@ ghost use Rattle.cfg_tree.specs.Functions as functions;
 ghost use Rattle.cfg_tree.specs.Functions.{FuncWith, needed_fields};
 ghost use Rattle.cfg_tree.specs.Refusals.{join, from_some, both, one};
 ghost use Rattle.cfg_check.specs.Following.{Follows};
-ghost use Rattle.cfg_check.specs.Calls.{form, func_with_code, func_with_block, func_with_text, armed_kind, only_literal};
+ghost use Rattle.cfg_check.specs.Calls.{form, func_with_code, func_with_block, func_with_text, armed_kind, only_literal, party_fields, order_fields, route_fields};
 
 use crate::argument::{literal, number_argument};
 use crate::checker::Checker;
@@ -92,29 +92,44 @@ fn only_literal(args: &[RawArg]) -> Option<&Word>
     }
 }
 
+/// A field of a message's way so far, or of its parties.
+fn is_party_field(name: &[u8]) -> bool
+    ensures { result ≡ list_any (str_eq_ignore_ascii_case name.now) party_fields }
+{
+    name.eq_ignore_ascii_case(b"via")
+        || name.eq_ignore_ascii_case(b"v")
+        || name.eq_ignore_ascii_case(b"from")
+        || name.eq_ignore_ascii_case(b"f")
+        || name.eq_ignore_ascii_case(b"to")
+        || name.eq_ignore_ascii_case(b"t")
+}
+
+/// A field that tells a message from the others of its call.
+fn is_order_field(name: &[u8]) -> bool
+    ensures { result ≡ list_any (str_eq_ignore_ascii_case name.now) order_fields }
+{
+    name.eq_ignore_ascii_case(b"call-id")
+        || name.eq_ignore_ascii_case(b"i")
+        || name.eq_ignore_ascii_case(b"cseq")
+        || name.eq_ignore_ascii_case(b"max-forwards")
+}
+
+/// A field of a message's length, or of its way from here.
+fn is_route_field(name: &[u8]) -> bool
+    ensures { result ≡ list_any (str_eq_ignore_ascii_case name.now) route_fields }
+{
+    name.eq_ignore_ascii_case(b"content-length")
+        || name.eq_ignore_ascii_case(b"l")
+        || name.eq_ignore_ascii_case(b"route")
+        || name.eq_ignore_ascii_case(b"record-route")
+}
+
 /// A field that a message needs, by its name in either form.
+#[tactic(auto, using(crate::proofs::Lookups::needed_parts))]
 fn is_needed(name: &[u8]) -> bool
     ensures { result ≡ list_any (str_eq_ignore_ascii_case name.now) needed_fields }
 {
-    const NEEDED: [&[u8]; 14] = [
-        b"via",
-        b"v",
-        b"from",
-        b"f",
-        b"to",
-        b"t",
-        b"call-id",
-        b"i",
-        b"cseq",
-        b"max-forwards",
-        b"content-length",
-        b"l",
-        b"route",
-        b"record-route",
-    ];
-    NEEDED
-        .iter()
-        .any(|needed| name.eq_ignore_ascii_case(needed))
+    is_party_field(name) || is_order_field(name) || is_route_field(name)
 }
 
 impl Checker {
