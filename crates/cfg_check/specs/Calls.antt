@@ -91,7 +91,7 @@ literal_in (Some a) = functions.literal a
 abbrev pub only_literal : List RawArg → Option Word
 only_literal args = literal_in (functions.one_arg args)
 
--- the fields that a message needs: of its way so far and its parties, of its place in the call, of its length and its route
+-- the fields that a message needs, in parts: of its way so far and its parties, of its call and its place there, of its length and its route
 abbrev pub party_fields : List (List ℕ)
 party_fields = take 6 needed_fields
 

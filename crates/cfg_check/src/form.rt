@@ -104,7 +104,7 @@ fn is_party_field(name: &[u8]) -> bool
         || name.eq_ignore_ascii_case(b"t")
 }
 
-/// A field that tells a message from the others of its call.
+/// A field of a message's call, of its place there, or of the steps that are left to it.
 fn is_order_field(name: &[u8]) -> bool
     ensures { result ≡ list_any (str_eq_ignore_ascii_case name.now) order_fields }
 {
@@ -325,7 +325,22 @@ impl Checker {
         Ok(bare_call(self.alloc(), removal(table, pattern)))
     }
 
+    /// The parts of two arguments that are expanded.
+    fn expanded_two(
+        &mut self,
+        known: &Known,
+        first: &RawArg,
+        second: &RawArg,
+    ) -> Result<Option<Items<Items<Part>>>, NoMemory>
+        ensures { IfOk result (λ v. Follows (both (λ p q. p ∷ q ∷ []) (functions.expanded_arg known.now first.now) (functions.expanded_arg known.now second.now)) self.old v self.new) }
+    {
+        let first = self.expanded(known, first)?;
+        let second = self.expanded(known, second)?;
+        two(self.alloc(), first, second)
+    }
+
     /// `(x, x, "route")`
+    #[tactic(auto, using(crate::proofs::Literals::follows_both))]
     fn continuing(
         &mut self,
         known: &Known,
@@ -334,12 +349,13 @@ impl Checker {
     ) -> Result<Option<Call>, NoMemory>
         ensures { IfOk result (λ v. Follows (functions.continuing func.TContinue known.now at args.now) self.old v self.new) }
     {
-        let [index, label, RawArg::String(route)] = args else {
+        let [index, label, route] = args else {
             return self.refuse(Kind::WrongArguments, at);
         };
-        let index = self.expanded(known, index)?;
-        let label = self.expanded(known, label)?;
-        let arguments = two(self.alloc(), index, label)?;
+        let Some(route) = literal(route) else {
+            return self.refuse(Kind::WrongArguments, at);
+        };
+        let arguments = self.expanded_two(known, index, label)?;
         let block = self.block_number(known, RouteKind::Route, route)?;
         Ok(continuation(arguments, block))
     }
