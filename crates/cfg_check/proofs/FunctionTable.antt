@@ -52,7 +52,7 @@ stands_not row l m known kind w args {old} {mid} {new} is outside seen noted h =
     rw (is, outside) record {
       value_is = refl;
       refusals_are = refusals ∙ rw noted (append_assoc old.refusals (r ∷ []) (m known w.at args old.seen).refusals);
-      seen_is = after
+      seen_is = after;
     }
 
 pub call_stands : {E : Type 0} (known : Known) (kind : RouteKind) (w : Word) (args : List RawArg) (name : List ℕ) (f : Function) (old new : State) (r : Result (Option FuncWith) E) →

@@ -1,13 +1,12 @@
 // Calls of functions: each form of arguments.
 
-ghost use Rattle.std.specs.Prelude.{◌≡◌, ◌∷◌, [], ℕ, List, IfOk, Some, option_map, option_copied};
+ghost use Rattle.std.specs.Prelude.{◌≡◌, ◌∷◌, [], IfOk, option_map, option_copied};
 ghost use Rattle.std.specs.List.{list_any};
 ghost use Rattle.std.specs.Str.{str_eq_ignore_ascii_case};
 ghost use Rattle.pv_values.specs.declared.function.Func.TheVariants as func;
-ghost use Rattle.cfg_tree.specs.declared.raw.RouteKind.TheVariants.{Route};
 ghost use Rattle.cfg_tree.specs.Functions as functions;
-ghost use Rattle.cfg_tree.specs.Functions.{FuncWith, needed_fields};
-ghost use Rattle.cfg_tree.specs.Refusals.{join, from_some, both, one};
+ghost use Rattle.cfg_tree.specs.Functions.{needed_fields};
+ghost use Rattle.cfg_tree.specs.Refusals.{join, both};
 ghost use Rattle.cfg_check.specs.Following.{Follows};
 ghost use Rattle.cfg_check.specs.Calls.{form, func_with_code, func_with_block, func_with_text, armed_kind, only_literal, party_fields, order_fields, route_fields};
 
@@ -340,7 +339,7 @@ impl Checker {
     }
 
     /// `(x, x, "route")`
-    #[tactic(auto, using(crate::proofs::Literals::follows_both))]
+    #[tactic(auto, using(crate::proofs::Follows::follows_both))]
     fn continuing(
         &mut self,
         known: &Known,

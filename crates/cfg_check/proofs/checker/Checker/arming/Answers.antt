@@ -1,4 +1,4 @@
-use Rattle.std.proofs.Common.{rules, ◌≡◌, ◌∙◌, option_map}
+use Rattle.std.proofs.Common.{rules, ◌≡◌, option_map}
 use Rattle.cfg_check.specs.Calls.{armed_kind, func_with_block}
 use Rattle.cfg_check.proofs.Literals.{block_read}
 use Rattle.cfg_check.proofs.checker.Checker.arming.Goals as goal
