@@ -8,7 +8,7 @@ use Rattle.cfg_tree.specs.declared.raw.RawArg.{RawArg}
 use Rattle.cfg_tree.specs.declared.raw.RouteKind.{RouteKind}
 use Rattle.cfg_tree.specs.declared.raw.RouteKind.TheVariants.{Begins}
 use Rattle.cfg_tree.specs.Functions as functions
-use Rattle.cfg_tree.specs.Functions.{Form}
+use Rattle.cfg_tree.specs.Functions.{Form, needed_fields}
 use Rattle.cfg_check.specs.declared.function.Function.{Function}
 use Rattle.cfg_check.specs.declared.function.Function.TheVariants as function
 use Rattle.cfg_check.specs.declared.function.Plain.{Plain}
@@ -90,6 +90,16 @@ literal_in (Some a) = functions.literal a
 
 abbrev pub only_literal : List RawArg → Option Word
 only_literal args = literal_in (functions.one_arg args)
+
+-- the fields that a message needs, in parts: of its way so far and its parties, of its call and its place there, of its length and its route
+abbrev pub party_fields : List (List ℕ)
+party_fields = take 6 needed_fields
+
+abbrev pub order_fields : List (List ℕ)
+order_fields = take 4 (drop 6 needed_fields)
+
+abbrev pub route_fields : List (List ℕ)
+route_fields = drop 10 needed_fields
 
 -- by their names, in the order of the language's table
 abbrev pub rows : List (List ℕ × Function)

@@ -1,6 +1,6 @@
 // Arguments.
 
-ghost use Rattle.std.specs.Prelude.{◌≡◌, IfOk, option_copied, option_map};
+ghost use Rattle.std.specs.Prelude.{◌≡◌, IfOk, option_copied};
 ghost use Rattle.cfg_tree.specs.Functions as functions;
 ghost use Rattle.cfg_tree.specs.Functions.{between, number_arg, plain_decimal, not_below_0};
 ghost use Rattle.cfg_check.specs.Following.{Follows};

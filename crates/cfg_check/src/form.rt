@@ -1,15 +1,14 @@
 // Calls of functions: each form of arguments.
 
-ghost use Rattle.std.specs.Prelude.{◌≡◌, ◌∷◌, [], ℕ, List, IfOk, Some, option_map, option_copied};
+ghost use Rattle.std.specs.Prelude.{◌≡◌, ◌∷◌, [], IfOk, option_map, option_copied};
 ghost use Rattle.std.specs.List.{list_any};
 ghost use Rattle.std.specs.Str.{str_eq_ignore_ascii_case};
 ghost use Rattle.pv_values.specs.declared.function.Func.TheVariants as func;
-ghost use Rattle.cfg_tree.specs.declared.raw.RouteKind.TheVariants.{Route};
 ghost use Rattle.cfg_tree.specs.Functions as functions;
-ghost use Rattle.cfg_tree.specs.Functions.{FuncWith, needed_fields};
-ghost use Rattle.cfg_tree.specs.Refusals.{join, from_some, both, one};
+ghost use Rattle.cfg_tree.specs.Functions.{needed_fields};
+ghost use Rattle.cfg_tree.specs.Refusals.{join, both};
 ghost use Rattle.cfg_check.specs.Following.{Follows};
-ghost use Rattle.cfg_check.specs.Calls.{form, func_with_code, func_with_block, func_with_text, armed_kind, only_literal};
+ghost use Rattle.cfg_check.specs.Calls.{form, func_with_code, func_with_block, func_with_text, armed_kind, only_literal, party_fields, order_fields, route_fields};
 
 use crate::argument::{literal, number_argument};
 use crate::checker::Checker;
@@ -92,29 +91,44 @@ fn only_literal(args: &[RawArg]) -> Option<&Word>
     }
 }
 
+/// A field of a message's way so far, or of its parties.
+fn is_party_field(name: &[u8]) -> bool
+    ensures { result ≡ list_any (str_eq_ignore_ascii_case name.now) party_fields }
+{
+    name.eq_ignore_ascii_case(b"via")
+        || name.eq_ignore_ascii_case(b"v")
+        || name.eq_ignore_ascii_case(b"from")
+        || name.eq_ignore_ascii_case(b"f")
+        || name.eq_ignore_ascii_case(b"to")
+        || name.eq_ignore_ascii_case(b"t")
+}
+
+/// A field of a message's call, of its place there, or of the steps that are left to it.
+fn is_order_field(name: &[u8]) -> bool
+    ensures { result ≡ list_any (str_eq_ignore_ascii_case name.now) order_fields }
+{
+    name.eq_ignore_ascii_case(b"call-id")
+        || name.eq_ignore_ascii_case(b"i")
+        || name.eq_ignore_ascii_case(b"cseq")
+        || name.eq_ignore_ascii_case(b"max-forwards")
+}
+
+/// A field of a message's length, or of its way from here.
+fn is_route_field(name: &[u8]) -> bool
+    ensures { result ≡ list_any (str_eq_ignore_ascii_case name.now) route_fields }
+{
+    name.eq_ignore_ascii_case(b"content-length")
+        || name.eq_ignore_ascii_case(b"l")
+        || name.eq_ignore_ascii_case(b"route")
+        || name.eq_ignore_ascii_case(b"record-route")
+}
+
 /// A field that a message needs, by its name in either form.
+#[tactic(auto, using(crate::proofs::Lookups::needed_parts))]
 fn is_needed(name: &[u8]) -> bool
     ensures { result ≡ list_any (str_eq_ignore_ascii_case name.now) needed_fields }
 {
-    const NEEDED: [&[u8]; 14] = [
-        b"via",
-        b"v",
-        b"from",
-        b"f",
-        b"to",
-        b"t",
-        b"call-id",
-        b"i",
-        b"cseq",
-        b"max-forwards",
-        b"content-length",
-        b"l",
-        b"route",
-        b"record-route",
-    ];
-    NEEDED
-        .iter()
-        .any(|needed| name.eq_ignore_ascii_case(needed))
+    is_party_field(name) || is_order_field(name) || is_route_field(name)
 }
 
 impl Checker {
@@ -310,7 +324,22 @@ impl Checker {
         Ok(bare_call(self.alloc(), removal(table, pattern)))
     }
 
+    /// The parts of two arguments that are expanded.
+    fn expanded_two(
+        &mut self,
+        known: &Known,
+        first: &RawArg,
+        second: &RawArg,
+    ) -> Result<Option<Items<Items<Part>>>, NoMemory>
+        ensures { IfOk result (λ v. Follows (both (λ p q. p ∷ q ∷ []) (functions.expanded_arg known.now first.now) (functions.expanded_arg known.now second.now)) self.old v self.new) }
+    {
+        let first = self.expanded(known, first)?;
+        let second = self.expanded(known, second)?;
+        two(self.alloc(), first, second)
+    }
+
     /// `(x, x, "route")`
+    #[tactic(auto, using(crate::proofs::Follows::follows_both))]
     fn continuing(
         &mut self,
         known: &Known,
@@ -319,12 +348,13 @@ impl Checker {
     ) -> Result<Option<Call>, NoMemory>
         ensures { IfOk result (λ v. Follows (functions.continuing func.TContinue known.now at args.now) self.old v self.new) }
     {
-        let [index, label, RawArg::String(route)] = args else {
+        let [index, label, route] = args else {
             return self.refuse(Kind::WrongArguments, at);
         };
-        let index = self.expanded(known, index)?;
-        let label = self.expanded(known, label)?;
-        let arguments = two(self.alloc(), index, label)?;
+        let Some(route) = literal(route) else {
+            return self.refuse(Kind::WrongArguments, at);
+        };
+        let arguments = self.expanded_two(known, index, label)?;
         let block = self.block_number(known, RouteKind::Route, route)?;
         Ok(continuation(arguments, block))
     }
