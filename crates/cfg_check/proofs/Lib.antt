@@ -10,3 +10,4 @@ pub mod ValuedNames
 pub mod ValuedFunctions
 pub mod ValuedTrees
 pub mod ValuedScripts
+mod Firsts
