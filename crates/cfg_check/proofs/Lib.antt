@@ -11,3 +11,4 @@ pub mod ValuedFunctions
 pub mod ValuedTrees
 pub mod ValuedScripts
 mod Firsts
+mod Blocks
