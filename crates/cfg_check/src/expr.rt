@@ -75,6 +75,7 @@ fn link(operator: BinOp, operand: Option<Expr>) -> Option<(BinOp, Expr)>
 
 impl Checker {
     /// A call of a function or a route, in a block of this kind.
+    #[tactic(auto, using(crate::proofs::Follows::follows_one))]
     pub fn call(
         &mut self,
         known: &Known,
@@ -100,6 +101,7 @@ impl Checker {
     }
 
     /// An expression, in a block of this kind.
+    #[tactic(auto, using(crate::proofs::Follows::follows_one, crate::proofs::Follows::follows_both, crate::proofs::Follows::follows_accepted))]
     #[cycle(exprs)]
     pub fn expr(
         &mut self,
@@ -152,6 +154,7 @@ impl Checker {
     }
 
     /// Operands, one after another.
+    #[tactic(auto, using(crate::proofs::Follows::each_item, crate::proofs::Follows::each_whole, crate::proofs::Follows::follows_each_none))]
     #[cycle(exprs)]
     fn exprs(
         &mut self,
@@ -170,6 +173,7 @@ impl Checker {
     }
 
     /// Operands of a chain, each with the operator before it.
+    #[tactic(auto, using(crate::proofs::Follows::follows_one, crate::proofs::Follows::each_item, crate::proofs::Follows::each_whole, crate::proofs::Follows::follows_each_none))]
     #[cycle(exprs)]
     fn links(
         &mut self,
