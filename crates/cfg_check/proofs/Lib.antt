@@ -12,3 +12,4 @@ pub mod ValuedTrees
 pub mod ValuedScripts
 mod Firsts
 mod Blocks
+pub mod Follows
