@@ -14,3 +14,6 @@ pub mod ValuedNames
 pub mod ValuedFunctions
 pub mod ValuedTrees
 pub mod ValuedScripts
+mod Firsts
+mod Blocks
+pub mod Follows
