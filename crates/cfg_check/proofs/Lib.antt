@@ -16,4 +16,3 @@ pub mod ValuedTrees
 pub mod ValuedScripts
 mod Firsts
 mod Blocks
-pub mod Follows
