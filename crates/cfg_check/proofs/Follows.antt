@@ -1,13 +1,9 @@
 -- What follows a check: of one value, of several, and of a list, one item more at a time.
 use Rattle.std.proofs.Common.{◌≡◌, ℕ, ◌+◌, ◌<◌, ◌≤◌, Bool, true, false, not, nat_le, List, [], ◌∷◌, ◌++◌, map, length, take, get_or, Option, Some, None, if◌then◌else◌, refl, sym, ap, ◌∙◌, subst, append_assoc, append-nil}
-<<<<<<< HEAD
-use Rattle.std.specs.Prelude.{option_map}
-=======
 use Rattle.std.specs.Prelude.{IfOk, option_map}
 use Rattle.std.specs.declared.result.Result.{Result}
 use Rattle.std.specs.declared.result.Result.TheVariants.{Ok, Err}
 use Rattle.std.specs.declared.alloc.AllocError.{AllocError}
->>>>>>> 1e2fc3ddc0db025ac79cdc40f6e1c0cf3036a21a
 use Rattle.std.proofs.lemmas.List.{take_more, take_all, map-append}
 use Rattle.std.proofs.lemmas.Grind.{flat_map-append}
 use Rattle.pv_values.specs.declared.refusal.Place.{Place}
@@ -38,19 +34,12 @@ pub follows_three : {A B C D : Type 0} (h : A → B → C → D) (f : Checked A)
 follows_three h f g k a b c d v w x r first second third is =
     follows_both (λ p q. p q) (both h f g) k a c d (join h v w) x r (follows_both h f g a b c v w (join h v w) first second refl) third is
 
-<<<<<<< HEAD
--- ---- lists
-
-abbrev snoc : {A : Type 0} → List A → A → List A
-snoc xs x = xs ++ x ∷ []
-=======
 -- what is made of the value follows the check
 pub ok_follows : {A : Type 0} (m : Checked A) (a b : State) (v : Option A) (r : Result (Option A) AllocError) → Follows m a v b → IfOk r (λ x. x ≡ v) → IfOk r (λ x. Follows m a x b)
 ok_follows m a b v (Ok x) h is = subst (λ y. Follows m a y b) (sym is) h
 ok_follows m a b v (Err e) h is = tt
 
 -- ---- lists
->>>>>>> 1e2fc3ddc0db025ac79cdc40f6e1c0cf3036a21a
 
 join_one : {A : Type 0} (m : Option A) → join (λ x more. x ∷ more) m (Some []) ≡ join (λ xs x. xs ++ x ∷ []) (Some []) m
 join_one None = refl
