@@ -1,12 +1,7 @@
 pub mod Numbering
 pub mod Lookups
-pub mod Names
-mod Endings
 mod FunctionTable
 mod Literals
-mod Paths
-mod Semicolons
-mod Standing
 pub mod Follows
 pub mod Expansions
 pub mod Valued

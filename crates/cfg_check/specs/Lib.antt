@@ -1,10 +1,6 @@
 pub mod Answer
-pub mod Kinds
-pub mod Names
 pub mod Following
 pub mod Lookups
 pub mod Layers
 pub mod Calls
 pub mod Reading
-pub mod Parts
-pub mod Sets

@@ -8,7 +8,7 @@ ghost use Rattle.cfg_check.specs.Following.{Follows};
 use crate::checker::{Checker, number};
 use crate::joins::one;
 use crate::known::Known;
-use crate::refusal::Kind;
+use cfg_settings::Kind;
 use cfg_tree::{Part, RawArg, RouteKind, Word};
 use pv_values::number::text_number;
 use pv_values::{Place, Val, as_text};

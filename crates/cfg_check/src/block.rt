@@ -9,7 +9,7 @@ ghost use Rattle.cfg_check.specs.Following.{Follows};
 use crate::checker::Checker;
 use crate::joins::with_item;
 use crate::known::{Known, is_same_kind};
-use crate::refusal::{Kind, Refusal};
+use cfg_settings::{Kind, Refusal};
 use cfg_tree::{RawBlock, RawItem, RouteKind, Stmt};
 use pv_values::{Place, Text};
 use sqlite_items::Items;

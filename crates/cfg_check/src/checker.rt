@@ -5,10 +5,10 @@ ghost use Rattle.cfg_tree.specs.Checks as checks;
 ghost use Rattle.cfg_tree.specs.Names as names;
 ghost use Rattle.cfg_tree.specs.Functions as functions;
 ghost use Rattle.cfg_tree.specs.Refusals.{refused};
-ghost use Rattle.cfg_check.specs.Kinds.{number_of};
+ghost use Rattle.cfg_settings.specs.Kinds.{number_of};
 ghost use Rattle.cfg_check.specs.Following.{State, Follows, Counts};
 
-use crate::refusal::{Kind, Refusal};
+use cfg_settings::{Kind, Refusal};
 use crate::vars::Names;
 use pv_values::{Pattern, PatternFault, Patterns, Place};
 use sqlite_items::Items;

@@ -12,24 +12,16 @@ ghost use Rattle.cfg_check.specs.Answer.{IsRefusalOf, GivesScript, GivesRefusal}
 
 mod argument;
 mod block;
-mod bytes;
 mod checker;
 mod expr;
 mod form;
 mod function;
 mod host;
-mod item;
 mod joins;
 mod known;
 pub mod laws;
-mod limit;
-mod module;
-mod name;
-mod refusal;
 mod script;
-mod setting;
 mod stmt;
-mod table;
 mod target;
 #[cfg(test)]
 mod tests;

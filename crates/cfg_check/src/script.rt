@@ -8,10 +8,10 @@ ghost use Rattle.cfg_check.specs.Reading.{IsRead, IsJudged};
 
 use crate::block::blocks_in;
 use crate::checker::{Checker, number};
-use crate::item::settings_in;
+use cfg_settings::settings_in;
 use crate::known::Known;
-use crate::refusal::{Kind, Refusal};
-use crate::setting::Settings;
+use cfg_settings::{Kind, Refusal};
+use cfg_settings::Settings;
 use cfg_tree::{RawScript, RouteKind, Script, Stmt};
 use pv_values::{BlockKind, Patterns, Place};
 use sqlite_items::Items;

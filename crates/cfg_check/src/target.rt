@@ -9,7 +9,7 @@ ghost use Rattle.cfg_check.specs.Following.{Follows};
 
 use crate::checker::Checker;
 use crate::known::Known;
-use crate::refusal::Kind;
+use cfg_settings::Kind;
 use cfg_tree::{Part, RawVariable, RouteKind, TableUse, Target};
 use pv_values::{BlockKind, Key, PvUse, Text};
 use std::alloc::{AllocError as NoMemory, Global};

@@ -1,6 +1,0 @@
-use Rattle.std.proofs.Common.{◌≡◌, ◌+◌, drop}
-use Rattle.cfg_tree.specs.Variables.{before}
-use Rattle.cfg_check.proofs.bytes.before.Given as goal
-
-abbrev pub invariant-loop-at : goal.invariant-loop-at
-invariant-loop-at l = l.at + before l.byte (drop l.at l.text) ≡ before l.byte l.text

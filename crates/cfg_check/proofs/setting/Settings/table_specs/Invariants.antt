@@ -1,5 +1,0 @@
-use Rattle.std.proofs.Common.{◌≡◌, map, take}
-use Rattle.cfg_check.proofs.setting.Settings.table_specs.Given as goal
-
-abbrev pub invariant-loop-table : goal.invariant-loop-table
-invariant-loop-table l = l.specs ≡ map (λ t. t.1) (take l.table-index l.self.tables)

@@ -1,0 +1,5 @@
+mod Names
+mod Endings
+mod Paths
+mod Semicolons
+mod Standing
