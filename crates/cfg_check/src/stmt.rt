@@ -1,14 +1,14 @@
 // Statements.
 
-ghost use Rattle.std.specs.Prelude.{◌≡◌, ◌∷◌, [], IfOk, map, option_map};
-ghost use Rattle.cfg_tree.specs.Checks as checks;
-ghost use Rattle.cfg_tree.specs.Checks.{stmt_in, all_in};
+ghost use Rattle.std.specs.Prelude.{◌≡◌, ◌∷◌, [], IfOk, List, map, option_map};
+ghost use Rattle.cfg_tree.specs.Checks.{stmt_step, stmt_in, all_in, maybe, maybe_expr, numbered};
 ghost use Rattle.cfg_tree.specs.Refusals.{accepted, join, each, one};
+ghost use Rattle.cfg_tree.specs.declared.script.Stmt.{Stmt as Meant};
 ghost use Rattle.cfg_tree.specs.declared.script.Stmt.TheOpen.{Stmt-F};
 ghost use Rattle.cfg_tree.specs.declared.script.Stmt.TheViews.{roll-Stmt};
 ghost use Rattle.cfg_tree.specs.declared.raw.RawStmt.TheOpen.{RawStmt-F};
-ghost use Rattle.cfg_tree.specs.declared.raw.RawStmt.TheViews.{roll-RawStmt};
 ghost use Rattle.cfg_check.specs.Following.{Follows, within_limit};
+ghost use Rattle.cfg_check.specs.Cases.{case_in, cases_in, switch_in};
 
 use crate::checker::Checker;
 use crate::joins::{self, with_item, with_items};
@@ -28,6 +28,20 @@ fn alone(alloc: Global, within: bool, stmt: Option<Stmt>) -> Result<Option<Items
     }
 }
 
+/// A call as a statement.
+fn call_alone(call: Option<Expr>) -> Option<Stmt>
+    ensures { result ≡ option_map (λ e. roll-Stmt (Stmt-F.Do e)) call }
+{
+    Some(Stmt::Do(call?))
+}
+
+/// `return`, with its value.
+fn returning(value: Option<Option<Expr>>) -> Option<Stmt>
+    ensures { result ≡ option_map (λ e. roll-Stmt (Stmt-F.Return e)) value }
+{
+    Some(Stmt::Return(value?))
+}
+
 fn assignment(target: Option<Target>, value: Option<Expr>) -> Option<Stmt>
     ensures { result ≡ join (λ t e. roll-Stmt (Stmt-F.Set t e)) target value }
 {
@@ -39,12 +53,12 @@ fn choice(
     first: Option<Items<Stmt>>,
     other: Option<Items<Stmt>>,
 ) -> Option<Stmt>
-    ensures { result ≡ join (λ g c. g c) (join (λ e ss more. roll-Stmt (Stmt-F.If e ss more)) test first) other }
+    ensures { result ≡ join {A = List Meant → Meant} (λ g c. g c) (join (λ e ss more. roll-Stmt (Stmt-F.If e ss more)) test first) other }
 {
     Some(Stmt::If(test?, first?, other?))
 }
 
-fn repeated(test: Option<Expr>, body: Option<Items<Stmt>>) -> Option<Stmt>
+fn repetition(test: Option<Expr>, body: Option<Items<Stmt>>) -> Option<Stmt>
     ensures { result ≡ join (λ e ss. roll-Stmt (Stmt-F.While e ss)) test body }
 {
     Some(Stmt::While(test?, body?))
@@ -55,9 +69,16 @@ fn selection(
     cases: Option<Items<(Val, Items<Stmt>)>>,
     default: Option<Items<Stmt>>,
 ) -> Option<Stmt>
-    ensures { result ≡ join (λ g c. g c) (join (λ e cs last. roll-Stmt (Stmt-F.Switch e cs last)) value cases) default }
+    ensures { result ≡ join {A = List Meant → Meant} (λ g c. g c) (join (λ e cs last. roll-Stmt (Stmt-F.Switch e cs last)) value cases) default }
 {
     Some(Stmt::Switch(value?, cases?, default?))
+}
+
+/// The statements, if the one that holds them is one of those that a script may have.
+fn where_within(within: bool, stmts: Option<Items<Stmt>>) -> Option<Items<Stmt>>
+    ensures { result ≡ within_limit within stmts }
+{
+    if within { stmts } else { None }
 }
 
 /// A case with its label.
@@ -84,7 +105,7 @@ impl Checker {
         v: &RawVariable,
         e: &RawExpr,
     ) -> Result<Option<Items<Stmt>>, NoMemory>
-        ensures { IfOk result (λ r. Follows (stmt_in known.now kind (roll-RawStmt (RawStmt-F.Set at v.now e.now))) self.old r self.new) }
+        ensures { IfOk result (λ r. Follows (stmt_step known.now kind (RawStmt-F.Set at v.now e.now)) self.old r self.new) }
     {
         let within = self.count(at)?;
         let target = self.target(known, kind, v)?;
@@ -100,11 +121,29 @@ impl Checker {
         at: Place,
         call: &RawCall,
     ) -> Result<Option<Items<Stmt>>, NoMemory>
-        ensures { IfOk result (λ r. Follows (stmt_in known.now kind (roll-RawStmt (RawStmt-F.Do at call.now))) self.old r self.new) }
+        ensures { IfOk result (λ r. Follows (stmt_step known.now kind (RawStmt-F.Do at call.now)) self.old r self.new) }
     {
         let within = self.count(at)?;
         let call = self.call(known, kind, call)?;
-        alone(self.alloc(), within, call.map(Stmt::Do))
+        alone(self.alloc(), within, call_alone(call))
+    }
+
+    /// The value behind `return`, where there is one.
+    fn maybe_expr(
+        &mut self,
+        known: &Known,
+        kind: RouteKind,
+        e: &Option<RawExpr>,
+    ) -> Result<Option<Option<Expr>>, NoMemory>
+        ensures { IfOk result (λ r. Follows (maybe_expr known.now kind e.now) self.old r self.new) }
+    {
+        match e {
+            None => Ok(Some(None)),
+            Some(e) => match self.expr(known, kind, e)? {
+                Some(e) => Ok(Some(Some(e))),
+                None => Ok(None),
+            },
+        }
     }
 
     /// `return e;`, or `return;`
@@ -115,37 +154,119 @@ impl Checker {
         at: Place,
         e: &Option<RawExpr>,
     ) -> Result<Option<Items<Stmt>>, NoMemory>
-        ensures { IfOk result (λ r. Follows (stmt_in known.now kind (roll-RawStmt (RawStmt-F.Return at e.now))) self.old r self.new) }
+        ensures { IfOk result (λ r. Follows (stmt_step known.now kind (RawStmt-F.Return at e.now)) self.old r self.new) }
     {
         let within = self.count(at)?;
-        let stmt = match e {
-            Some(e) => match self.expr(known, kind, e)? {
-                Some(e) => Some(Stmt::Return(Some(e))),
-                None => None,
-            },
-            None => Some(Stmt::Return(None)),
-        };
-        alone(self.alloc(), within, stmt)
+        let value = self.maybe_expr(known, kind, e)?;
+        alone(self.alloc(), within, returning(value))
     }
 
-    /// A statement that is what it is, as `exit;`
-    fn simple(&mut self, at: Place, stmt: Stmt) -> Result<Option<Items<Stmt>>, NoMemory>
-        ensures { IfOk result (λ r. Follows (checks.numbered at (accepted (stmt ∷ []))) self.old r self.new) }
+    /// `exit;`
+    fn exit(&mut self, at: Place) -> Result<Option<Items<Stmt>>, NoMemory>
+        ensures { IfOk result (λ r. Follows (numbered at (accepted (Stmt.Exit ∷ []))) self.old r self.new) }
     {
         let within = self.count(at)?;
-        alone(self.alloc(), within, Some(stmt))
+        alone(self.alloc(), within, Some(Stmt::Exit))
+    }
+
+    /// `drop;`
+    fn dropped(&mut self, at: Place) -> Result<Option<Items<Stmt>>, NoMemory>
+        ensures { IfOk result (λ r. Follows (numbered at (accepted (Stmt.Drop ∷ []))) self.old r self.new) }
+    {
+        let within = self.count(at)?;
+        alone(self.alloc(), within, Some(Stmt::Drop))
+    }
+
+    /// `break;`
+    fn broken(&mut self, at: Place) -> Result<Option<Items<Stmt>>, NoMemory>
+        ensures { IfOk result (λ r. Follows (numbered at (accepted (Stmt.Break ∷ []))) self.old r self.new) }
+    {
+        let within = self.count(at)?;
+        alone(self.alloc(), within, Some(Stmt::Break))
     }
 
     /// `;`
     fn empty(&mut self, at: Place) -> Result<Option<Items<Stmt>>, NoMemory>
-        ensures { IfOk result (λ r. Follows (checks.numbered at (accepted [])) self.old r self.new) }
+        ensures { IfOk result (λ r. Follows (numbered at (accepted [])) self.old r self.new) }
     {
         let within = self.count(at)?;
-        if within {
-            Ok(Some(Items::new(self.alloc())))
-        } else {
-            Ok(None)
-        }
+        let nothing = Items::new(self.alloc());
+        Ok(where_within(within, Some(nothing)))
+    }
+
+    /// `if`, with its statement, and the one behind `else`.
+    #[cycle(stmts)]
+    fn chosen(
+        &mut self,
+        known: &Known,
+        kind: RouteKind,
+        at: Place,
+        e: &RawExpr,
+        first: &RawStmt,
+        other: &Option<Boxed<RawStmt>>,
+    ) -> Result<Option<Items<Stmt>>, NoMemory>
+        ensures { IfOk result (λ r. Follows (stmt_step known.now kind (RawStmt-F.If at e.now (stmt_in known.now kind first.now)
+            (option_map (stmt_in known.now kind) other.now))) self.old r self.new) }
+    {
+        let within = self.count(at)?;
+        let test = self.expr(known, kind, e)?;
+        let first = self.stmt(known, kind, first)?;
+        let other = self.otherwise(known, kind, other)?;
+        alone(self.alloc(), within, choice(test, first, other))
+    }
+
+    /// `while`, with its statement.
+    #[cycle(stmts)]
+    fn repeated(
+        &mut self,
+        known: &Known,
+        kind: RouteKind,
+        at: Place,
+        e: &RawExpr,
+        body: &RawStmt,
+    ) -> Result<Option<Items<Stmt>>, NoMemory>
+        ensures { IfOk result (λ r. Follows (stmt_step known.now kind (RawStmt-F.While at e.now (stmt_in known.now kind body.now))) self.old r self.new) }
+    {
+        let within = self.count(at)?;
+        let test = self.expr(known, kind, e)?;
+        let body = self.stmt(known, kind, body)?;
+        alone(self.alloc(), within, repetition(test, body))
+    }
+
+    /// `switch`, with its cases and its default.
+    #[cycle(stmts)]
+    fn selected(
+        &mut self,
+        known: &Known,
+        kind: RouteKind,
+        at: Place,
+        e: &RawExpr,
+        cases: &[(Val, Items<RawStmt>)],
+        default: &[RawStmt],
+    ) -> Result<Option<Items<Stmt>>, NoMemory>
+        ensures { IfOk result (λ r. Follows (switch_in known.now kind at e.now cases.now default.now) self.old r self.new) }
+    {
+        let within = self.count(at)?;
+        let value = self.expr(known, kind, e)?;
+        let cases = self.cases(known, kind, cases)?;
+        let default = self.stmts(known, kind, default)?;
+        alone(self.alloc(), within, selection(value, cases, default))
+    }
+
+    /// `{ .. }`
+    #[cycle(stmts)]
+    fn grouped(
+        &mut self,
+        known: &Known,
+        kind: RouteKind,
+        at: Place,
+        stmts: &[RawStmt],
+    ) -> Result<Option<Items<Stmt>>, NoMemory>
+        ensures { IfOk result (λ r. Follows (numbered at (all_in (map (stmt_in known.now kind) stmts.now))) self.old r self.new) }
+    {
+        let within = self.count(at)?;
+        let stmts = self.stmts(known, kind, stmts)?;
+        Ok(where_within(within, stmts))
     }
 
     /// A statement, in a block of this kind.
@@ -160,36 +281,19 @@ impl Checker {
     {
         match s {
             RawStmt::If(at, e, first, other) => {
-                let within = self.count(*at)?;
-                let test = self.expr(known, kind, e)?;
-                let first = self.stmt(known, kind, first.get())?;
-                let other = self.otherwise(known, kind, other)?;
-                alone(self.alloc(), within, choice(test, first, other))
+                self.chosen(known, kind, *at, e, first.get(), other)
             }
-            RawStmt::While(at, e, body) => {
-                let within = self.count(*at)?;
-                let test = self.expr(known, kind, e)?;
-                let body = self.stmt(known, kind, body.get())?;
-                alone(self.alloc(), within, repeated(test, body))
-            }
+            RawStmt::While(at, e, body) => self.repeated(known, kind, *at, e, body.get()),
             RawStmt::Switch(at, e, cases, default) => {
-                let within = self.count(*at)?;
-                let value = self.expr(known, kind, e)?;
-                let cases = self.cases(known, kind, cases.as_slice())?;
-                let default = self.stmts(known, kind, default.as_slice())?;
-                alone(self.alloc(), within, selection(value, cases, default))
+                self.selected(known, kind, *at, e, cases.as_slice(), default.as_slice())
             }
             RawStmt::Set(at, v, e) => self.assigned(known, kind, *at, v, e),
             RawStmt::Do(at, call) => self.called(known, kind, *at, call),
             RawStmt::Return(at, e) => self.returned(known, kind, *at, e),
-            RawStmt::Exit(at) => self.simple(*at, Stmt::Exit),
-            RawStmt::Drop(at) => self.simple(*at, Stmt::Drop),
-            RawStmt::Break(at) => self.simple(*at, Stmt::Break),
-            RawStmt::Group(at, stmts) => {
-                let within = self.count(*at)?;
-                let stmts = self.stmts(known, kind, stmts.as_slice())?;
-                Ok(if within { stmts } else { None })
-            }
+            RawStmt::Exit(at) => self.exit(*at),
+            RawStmt::Drop(at) => self.dropped(*at),
+            RawStmt::Break(at) => self.broken(*at),
+            RawStmt::Group(at, stmts) => self.grouped(known, kind, *at, stmts.as_slice()),
             RawStmt::Empty(at) => self.empty(*at),
         }
     }
@@ -202,7 +306,7 @@ impl Checker {
         kind: RouteKind,
         other: &Option<Boxed<RawStmt>>,
     ) -> Result<Option<Items<Stmt>>, NoMemory>
-        ensures { IfOk result (λ r. Follows (checks.maybe (option_map (stmt_in known.now kind) other.now)) self.old r self.new) }
+        ensures { IfOk result (λ r. Follows (maybe (option_map (stmt_in known.now kind) other.now)) self.old r self.new) }
     {
         match other {
             Some(s) => self.stmt(known, kind, s.get()),
@@ -236,7 +340,7 @@ impl Checker {
         kind: RouteKind,
         cases: &[(Val, Items<RawStmt>)],
     ) -> Result<Option<Items<(Val, Items<Stmt>)>>, NoMemory>
-        ensures { IfOk result (λ r. Follows (each (map (λ c. one (λ ss. (c.0, ss)) (all_in (map (stmt_in known.now kind) c.1))) cases.now)) self.old r self.new) }
+        ensures { IfOk result (λ r. Follows (cases_in known.now kind cases.now) self.old r self.new) }
     {
         let mut all = Some(Items::new(self.alloc()));
         for item in cases {

@@ -3,7 +3,7 @@
 ghost use Rattle.std.specs.Prelude.{◌≡◌, [], IfOk};
 ghost use Rattle.cfg_tree.specs.Checks as checks;
 ghost use Rattle.cfg_tree.specs.declared.raw.RouteKind.TheVariants.{Route};
-ghost use Rattle.cfg_tree.specs.declared.script.Part.TheViews.{open-Part};
+ghost use Rattle.cfg_tree.specs.declared.script.Part.TheViews.{out-Part};
 ghost use Rattle.cfg_tree.specs.Meaning.{item_of};
 ghost use Rattle.cfg_check.specs.Following.{Follows};
 
@@ -50,15 +50,27 @@ fn item(alloc: Global, way: TableUse, table: u32) -> PvUse
 
 /// What an assignment to this variable writes, where the block may write it.
 fn target(alloc: Global, kind: RouteKind, part: Part) -> Option<Target>
-    ensures { result ≡ checks.target_in kind (open-Part part) }
+    ensures { result ≡ checks.target_in kind (out-Part part) }
 {
     match part {
         Part::Var(n) => Some(Target::Var(n)),
-        Part::Host(variable) if may_write(kind, &variable) => Some(Target::Host(variable)),
-        Part::Item(way, table, key) if may_write(kind, &item(alloc, way, table)) => {
-            Some(Target::Item(way, table, key))
+        Part::Host(variable) => {
+            if may_write(kind, &variable) {
+                Some(Target::Host(variable))
+            } else {
+                None
+            }
         }
-        _ => None,
+        Part::Item(way, table, key) => {
+            if may_write(kind, &item(alloc, way, table)) {
+                Some(Target::Item(way, table, key))
+            } else {
+                None
+            }
+        }
+        Part::Text(_text) => None,
+        Part::Code => None,
+        Part::Transformed(_transformation, _part) => None,
     }
 }
 
