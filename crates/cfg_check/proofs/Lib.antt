@@ -13,3 +13,4 @@ pub mod ValuedScripts
 mod Firsts
 mod Blocks
 pub mod Follows
+mod Readings
