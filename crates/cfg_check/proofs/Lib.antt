@@ -14,3 +14,5 @@ mod Firsts
 mod Blocks
 pub mod Follows
 mod Readings
+mod Makings
+mod Judging

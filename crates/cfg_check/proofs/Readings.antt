@@ -1,5 +1,5 @@
 -- What is read of a whole tree.
-use Rattle.std.proofs.Common.{◌≡◌, ℕ, List, [], ◌∷◌, ◌++◌, length, map, position, Option, None, ap, ◌∙◌, subst}
+use Rattle.std.proofs.Common.{◌≡◌, ℕ, List, [], ◌++◌, length, map, position, Option, None, ap, ◌∙◌, subst}
 use Rattle.pv_values.specs.declared.block.BlockKind.TheVariants.{Request, Reply}
 use Rattle.cfg_tree.specs.declared.raw.RawItem.{RawItem}
 use Rattle.cfg_tree.specs.declared.raw.RawScript.{RawScript}
