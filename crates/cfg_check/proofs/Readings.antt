@@ -70,8 +70,8 @@ is_read raw items read known blocks tables begun first second old now new same n
     let met = seen ∙ body.seen_is in
     record {
       refusals_are = all ∙ all_refusals raw first second now.refusals new.refusals read.request
-        (set_refused ∙ ap (λ rs. rs ++ setting_refusals items) nothing ∙ ap setting_refusals same)
-        (named_refused ∙ ap (λ xs. first ++ block_refusals [] (blocks_of xs)) same) body.refusals_are request_is last;
+          (set_refused ∙ ap (λ rs. rs ++ setting_refusals items) nothing ∙ ap setting_refusals same)
+          (named_refused ∙ ap (λ xs. first ++ block_refusals [] (blocks_of xs)) same) body.refusals_are request_is last;
       settings_are = settings;
       blocks_are = body.value_is;
       request_is = request_is;
