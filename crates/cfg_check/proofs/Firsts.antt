@@ -1,8 +1,8 @@
 -- The first of several refusals.
-use Rattle.std.proofs.Common.{◌≡◌, ◌⊎◌, ℕ, ◌<◌, ◌≤◌, ◌+◌, List, [], ◌∷◌, ◌++◌, length, take, refl, sym, ap, ◌∙◌, subst, inl, inr, get_or, arith, All, Contains}
+use Rattle.std.proofs.Common.{◌≡◌, ◌⊎◌, ℕ, ◌<◌, ◌≤◌, ◌+◌, List, [], ◌∷◌, ◌++◌, length, take, refl, sym, ap, ◌∙◌, subst, inl, inr, get_or, arith}
 use Rattle.std.proofs.lemmas.List.{take_more}
 use Rattle.std.proofs.lemmas.Bool.{cases_lt}
-use Rattle.std.proofs.lemmas.List.Elements.{All-push, All-nil, All-contains, Contains-append_left, Contains-append_right}
+use Rattle.std.proofs.lemmas.List.Elements.{All-push, All-nil, Contains-append_left, Contains-append_right}
 use Rattle.cfg_tree.specs.Refusals.{Refusal, GoesBefore, IsFirst}
 
 -- plain numbers: a pair is not greater than another
@@ -26,12 +26,6 @@ other_way a b k l h = elim (cases_lt b a) [
     ]
   ]
 ]
-
-same_pair : (a b k l : ℕ) → NotGreater a k b l → NotGreater b l a k → (k ≡ l) × (a ≡ b)
-same_pair a b k l (inl h) (inl i) = absurd (omega arith)
-same_pair a b k l (inl h) (inr (e, i)) = absurd (omega arith)
-same_pair a b k l (inr (e, h)) (inl i) = absurd (omega arith)
-same_pair a b k l (inr (e, h)) (inr (f, i)) = (omega arith, e)
 
 goes_through : (a b c : Refusal) → GoesBefore a b → GoesBefore b c → GoesBefore a c
 goes_through a b c = through a.at.from b.at.from c.at.from a.kind b.kind c.kind
@@ -70,12 +64,3 @@ step_stays f rest i r x lt is h before = subst (λ (rs : List Refusal). IsFirst 
 pub step_changes : (f : Refusal) (rest : List Refusal) (i : ℕ) (r x : Refusal) → i < length rest → x ≡ get_or rest i x → IsFirst (f ∷ take i rest) r → (GoesBefore r x → ⊥)
     → IsFirst (f ∷ take (i + 1) rest) x
 step_changes f rest i r x lt is h not_before = subst (λ (rs : List Refusal). IsFirst (f ∷ rs) x) (one_more rest i x lt is) (first_changes (f ∷ take i rest) r x h not_before)
-
--- the first refusals of one list have one kind and begin at one byte
-pub first_once : (rs : List Refusal) (r s : Refusal) → IsFirst rs r → IsFirst rs s → (r.kind ≡ s.kind) × (r.at.from ≡ s.at.from)
-first_once rs r s h i =
-    same_pair r.at.from s.at.from r.kind s.kind (All-contains (GoesBefore r) rs s h.first i.listed) (All-contains (GoesBefore s) rs r i.first h.listed)
-
--- of no refusals there is none
-pub none_first : (r : Refusal) → IsFirst [] r → ⊥
-none_first r h = let lt = h.listed.1 in absurd (omega arith)

@@ -14,3 +14,6 @@ mod Blocks
 pub mod Trees
 pub mod Targets
 pub mod Statements
+mod Readings
+mod Makings
+mod Judging

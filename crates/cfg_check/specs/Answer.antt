@@ -18,6 +18,12 @@ GivesScript script (Ok given) = given ≡ script
 GivesScript script (Err (Refused kind at)) = ⊥
 GivesScript script (Err NoMemory) = Unit {0}
 
+-- some script is given, but for want of memory
+abbrev pub GivesSome : Result Script ScriptFault → Type 0
+GivesSome (Ok given) = Unit {0}
+GivesSome (Err (Refused kind at)) = ⊥
+GivesSome (Err NoMemory) = Unit {0}
+
 -- a refusal of this kind is given, which begins at this byte, but for want of memory
 abbrev pub GivesRefusal : ℕ → Place → Result Script ScriptFault → Type 0
 GivesRefusal kind at (Ok given) = ⊥

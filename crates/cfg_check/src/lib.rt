@@ -4,11 +4,11 @@
 //! `cfg_tree`: `refusals_of` and `script_of`.
 #![tactic(auto)]
 
-ghost use Rattle.std.specs.Prelude.{ℕ, IfOk, IfErr};
+ghost use Rattle.std.specs.Prelude.{◌≡◌, ℕ, [], IfOk, IfErr};
 ghost use Rattle.pv_values.specs.declared.refusal.Place.{Place};
 ghost use Rattle.cfg_tree.specs.declared.script.Script.{Script};
-ghost use Rattle.cfg_tree.specs.Checks.{IsAccepted, IsRefused};
-ghost use Rattle.cfg_check.specs.Answer.{IsRefusalOf, GivesScript, GivesRefusal};
+ghost use Rattle.cfg_tree.specs.Checks.{refusals_of, IsAccepted, IsRefused};
+ghost use Rattle.cfg_check.specs.Answer.{IsRefusalOf, GivesScript, GivesSome, GivesRefusal};
 
 mod argument;
 mod block;
@@ -40,6 +40,7 @@ pub fn check(alloc: Global, raw: RawScript) -> Result<Script, ScriptFault>
     ensures accepted { IfOk result (IsAccepted raw) }
     ensures refused { IfErr result (IsRefusalOf raw) }
     ensures whole { (script : Script) → IsAccepted raw script → GivesScript script result }
+    ensures unrefused { refusals_of raw ≡ [] → GivesSome result }
     ensures first { (kind : ℕ) (at : Place) → IsRefused raw kind at → GivesRefusal kind at result }
 {
     match script::judged(alloc, &raw) {

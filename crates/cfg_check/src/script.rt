@@ -1,6 +1,8 @@
 // A script: the check of a whole tree.
 
-ghost use Rattle.std.specs.Prelude.{◌≡◌, [], None, IfSome, IfNone, IfOk, position};
+ghost use Rattle.std.specs.Prelude.{◌≡◌, ◌++◌, [], None, IfSome, IfNone, IfOk, OnOk, position};
+ghost use Rattle.cfg_tree.specs.declared.raw.RawScript.{RawScript};
+ghost use Rattle.cfg_tree.specs.Checks.{no_request, script_of};
 ghost use Rattle.cfg_tree.specs.Refusals.{IsFirst};
 ghost use Rattle.cfg_tree.specs.declared.raw.RouteKind.TheVariants.{Begins};
 ghost use Rattle.cfg_tree.specs.Functions.{is_same_block};
@@ -58,6 +60,21 @@ fn unnamed(known: &Known, kind: BlockKind) -> Result<Option<u32>, NoMemory>
     }
 }
 
+/// Refuses a tree that has no `request_route`, at its end.
+fn refuse_without_request(
+    checker: &mut Checker,
+    raw: &RawScript,
+    request: Option<u32>,
+) -> Result<(), NoMemory>
+    ensures seen { OnOk result (checker.new.seen ≡ checker.old.seen) }
+    ensures refusals { OnOk result (checker.new.refusals ≡ checker.old.refusals ++ no_request raw.now request) }
+{
+    if request.is_none() {
+        checker.note(Kind::NoRequestRoute, end_of(raw))?;
+    }
+    Ok(())
+}
+
 /// What is read of a tree, and what is refused of it.
 fn read_tree(alloc: Global, raw: &RawScript) -> Result<Read, NoMemory>
     ensures { IfOk result (IsRead raw.now) }
@@ -70,9 +87,7 @@ fn read_tree(alloc: Global, raw: &RawScript) -> Result<Read, NoMemory>
     let mut checker = Checker::new(alloc, refusals);
     let blocks = checker.bodies(&known, items)?;
     let request = unnamed(&known, BlockKind::Request)?;
-    if request.is_none() {
-        checker.note(Kind::NoRequestRoute, end_of(raw))?;
-    }
+    refuse_without_request(&mut checker, raw, request)?;
     let reply = unnamed(&known, BlockKind::Reply)?;
     let (refusals, vars, patterns) = checker.into_parts()?;
     Ok(Read {
@@ -96,17 +111,13 @@ fn end_of(raw: &RawScript) -> Place
     }
 }
 
-/// The script that a tree stands for, or its first refusal.
-pub fn judged(alloc: Global, raw: &RawScript) -> Result<Result<Script, Refusal>, NoMemory>
-    ensures { IfOk result (IsJudged raw.now) }
+/// The script that was read, where its blocks were and it has a `request_route`.
+fn script_of(alloc: Global, read: Read) -> Result<Option<Script>, NoMemory>
+    ensures { (raw : RawScript) → IsRead raw read → IfOk result (λ script. script ≡ script_of raw) }
 {
-    let read = read_tree(alloc, raw)?;
-    if let Some(first) = first_refusal(read.refusals.as_slice()) {
-        return Ok(Err(first.copy()));
-    }
     let (parameters, tables) = read.settings.into_parts(alloc)?;
     match (read.blocks, read.request) {
-        (Some(blocks), Some(request)) => Ok(Ok(Script {
+        (Some(blocks), Some(request)) => Ok(Some(Script {
             blocks,
             request,
             reply: read.reply,
@@ -115,7 +126,21 @@ pub fn judged(alloc: Global, raw: &RawScript) -> Result<Result<Script, Refusal>,
             tables,
             parameters,
         })),
-        // A tree of which nothing is refused has both.
-        _ => unreachable!(),
+        _ => Ok(None),
+    }
+}
+
+/// The script that a tree stands for, or its first refusal.
+pub fn judged(alloc: Global, raw: &RawScript) -> Result<Result<Script, Refusal>, NoMemory>
+    ensures { IfOk result (IsJudged raw.now) }
+{
+    let read = read_tree(alloc, raw)?;
+    if let Some(first) = first_refusal(read.refusals.as_slice()) {
+        return Ok(Err(first.copy()));
+    }
+    match script_of(alloc, read)? {
+        Some(script) => Ok(Ok(script)),
+        // A tree of which nothing is refused stands for a script.
+        None => unreachable!(),
     }
 }

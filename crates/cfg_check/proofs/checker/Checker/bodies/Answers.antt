@@ -1,4 +1,3 @@
-use Rattle.std.proofs.Common.{◌≡◌}
 use Rattle.cfg_check.proofs.Blocks.{no_block, one_body, no_body}
 use Rattle.cfg_check.proofs.checker.Checker.bodies.Goals.{in-Block+in_ok-body+in_ok-bodies, in_default}
 use Rattle.cfg_check.proofs.checker.Checker.bodies.Goals as goal
