@@ -1,16 +1,16 @@
 -- Where the folder is told, the words `check` and the file leave one status, besides that of a fault.
-use Rattle.std.proofs.Common.{◌≡◌, ℕ, ◌<◌, ◌≤◌, inl, inr, List, Option, Some, length, sym, ap, ◌∙◌, subst, arith}
-use Rattle.std.specs.Prelude.{IfSome, IsSomeAnd}
+use Rattle.std.proofs.Common.{◌≡◌, ℕ, ◌≤◌, inl, inr, List, Option, Some, length, sym, ap, ◌∙◌, subst, arith}
+use Rattle.std.specs.Prelude.{IfSome}
 use Rattle.outside_ports.specs.Counts.{Rises}
-use Rattle.outside_ports.specs.Files.{Folder, Holds, IsLonger}
+use Rattle.outside_ports.specs.Files.{Folder, Holds}
 use Rattle.outside_ports.specs.Told.{Grows}
 use Rattle.pv_values.specs.declared.refusal.Place.{Place}
 use Rattle.cfg_tree.specs.declared.script.Script.{Script}
 use Rattle.proxy_top.specs.declared.top.Ending.{Ending}
 use Rattle.proxy_top.specs.declared.top.Ending.TheVariants as outcome
 use Rattle.proxy_top.specs.Accept.{AcceptsText, RefusesText}
-use Rattle.proxy_top.specs.Commands.{check_words, sim_words}
-use Rattle.proxy_top.specs.Endings.{IsEnding, IsAccepted, IsRefusedByCheck, IsRefused, IsEnd, Gives, status_of, Tells, IsToAccept, IsToRefuse, IsTooLong, PrintsRefusal, place, refused_line}
+use Rattle.proxy_top.specs.Commands.{check_words}
+use Rattle.proxy_top.specs.Endings.{IsEnding, IsAccepted, IsRefused, IsEnd, Gives, status_of, IsToAccept, IsToRefuse, IsTooLong, PrintsRefusal, place, refused_line}
 use Rattle.proxy_top.proofs.Causes.{two_commands, held_once, not_longer}
 use Rattle.proxy_top.proofs.Statuses.{refused}
 use Rattle.proxy_top.proofs.Texts.{Agree, accepted_is_short}

@@ -1,6 +1,6 @@
 -- A text is accepted or refused, and not both; and it is refused in one way.
-use Rattle.std.proofs.Common.{◌≡◌, ◌≢◌, ℕ, ◌<◌, ◌≤◌, ◌⊎◌, inl, inr, List, [], length, refl, sym, ap, ◌∙◌, subst, arith}
-use Rattle.std.specs.Prelude.{All, Contains}
+use Rattle.std.proofs.Common.{◌≡◌, ◌≢◌, ℕ, ◌<◌, ◌≤◌, inl, inr, List, [], length, sym, ap, ◌∙◌, subst, arith}
+use Rattle.std.specs.Prelude.{Contains}
 use Rattle.std.proofs.lemmas.List.Elements.{All-contains}
 use Rattle.pv_values.specs.declared.refusal.Place.{Place}
 use Rattle.pv_values.specs.declared.refusal.ScriptFault.{ScriptFault}
@@ -9,7 +9,7 @@ use Rattle.cfg_tree.specs.declared.token.Token.{Token}
 use Rattle.cfg_tree.specs.declared.raw.RawItem.{RawItem}
 use Rattle.cfg_tree.specs.declared.raw.RawScript.{RawScript}
 use Rattle.cfg_tree.specs.declared.script.Script.{Script}
-use Rattle.cfg_tree.specs.Checks.{IsTreeOf, IsUnderivable, IsAccepted, IsRefused, Accepted, Refused, refusals_of}
+use Rattle.cfg_tree.specs.Checks.{IsTreeOf, IsRefused, Accepted, Refused, refusals_of}
 use Rattle.cfg_tree.specs.Grammar.{Derives}
 use Rattle.cfg_tree.specs.Refusals.{Refusal, GoesBefore, IsFirst}
 use Rattle.cfg_lex.specs.Tokens.{TokensOf, FaultOf}
