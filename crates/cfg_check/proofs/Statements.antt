@@ -37,10 +37,14 @@ counted : (at : Place) (m : Checked (List Stmt)) (a b d : State) (within : Bool)
 counted at m a b d within v r counts h made =
     ok_follows (numbered at m) a d (within_limit within v) r (follows_numbered at m a b d within v (within_limit within v) counts h refl) made
 
+within_single : (within : Bool) (s : Option Stmt) → single (within_limit within s) ≡ within_limit within (single s)
+within_single true s = refl
+within_single false s = refl
+
 alone : (at : Place) (m : Checked (List Stmt)) (a b d : State) (within : Bool) (s : Option Stmt) (v : Option (List Stmt)) (r : Result (Option (List Stmt)) AllocError) →
-    Counts at a within b → Follows m b v d → v ≡ single s → IfOk r (λ x. x ≡ within_limit within (single s)) → IfOk r (λ x. Follows (numbered at m) a x d)
+    Counts at a within b → Follows m b v d → v ≡ single s → IfOk r (λ x. x ≡ single (within_limit within s)) → IfOk r (λ x. Follows (numbered at m) a x d)
 alone at m a b d within s v r counts h is made =
-    counted at m a b d within v r counts h (subst (λ y. IfOk r (λ x. x ≡ within_limit within y)) (sym is) made)
+    counted at m a b d within v r counts h (subst (λ y. IfOk r (λ x. x ≡ y)) (within_single within s ∙ ap (within_limit within) (sym is)) made)
 
 map_single : {A : Type 0} (f : A → Stmt) (x : Option A) → option_map (λ a. f a ∷ []) x ≡ single (option_map f x)
 map_single f None = refl
@@ -58,28 +62,20 @@ three_single f (Some a) None z = refl
 three_single f (Some a) (Some b) None = refl
 three_single f (Some a) (Some b) (Some c) = refl
 
--- one statement too many, and none
-pub none_within : {A : Type 0} (within : Bool) (v : Option A) → within ≡ false → None ≡ within_limit within v
-none_within within v no = rw no refl
-
-pub none_single : (within : Bool) (s : Option Stmt) → s ≡ None → None ≡ within_limit within (single s)
-none_single true s none = rw none refl
-none_single false s none = refl
-
 pub simple_follows : (at : Place) (s : Stmt) (a b : State) (within : Bool) (r : Result (Option (List Stmt)) AllocError) → Counts at a within b →
-    IfOk r (λ x. x ≡ within_limit within (single (Some s))) → IfOk r (λ x. Follows (numbered at (accepted (s ∷ []))) a x b)
+    IfOk r (λ x. x ≡ single (within_limit within (Some s))) → IfOk r (λ x. Follows (numbered at (accepted (s ∷ []))) a x b)
 simple_follows at s a b within r counts made = alone at (accepted (s ∷ [])) a b b within (Some s) (Some (s ∷ [])) r counts (follows_accepted (s ∷ []) b) refl made
 
 pub set_follows : (known : Known) (kind : RouteKind) (at : Place) (v : RawVariable) (e : RawExpr) (a b c d : State) (within : Bool) (target : Option Target) (value : Option Expr) (s : Option Stmt)
     (r : Result (Option (List Stmt)) AllocError) → Counts at a within b → Follows (target_of known kind v) b target c → Follows (expr_in known kind e) c value d →
-    s ≡ join (λ t x. roll-Stmt (Stmt-F.Set t x)) target value → IfOk r (λ x. x ≡ within_limit within (single s)) → IfOk r (λ x. Follows (stmt_step known kind (RawStmt-F.Set at v e)) a x d)
+    s ≡ join (λ t x. roll-Stmt (Stmt-F.Set t x)) target value → IfOk r (λ x. x ≡ single (within_limit within s)) → IfOk r (λ x. Follows (stmt_step known kind (RawStmt-F.Set at v e)) a x d)
 set_follows known kind at v e a b c d within target value s r counts first second is made =
     alone at (both (λ t x. roll-Stmt (Stmt-F.Set t x) ∷ []) (target_of known kind v) (expr_in known kind e)) a b d within s (join (λ t x. roll-Stmt (Stmt-F.Set t x) ∷ []) target value) r counts
     (follows_both (λ t x. roll-Stmt (Stmt-F.Set t x) ∷ []) (target_of known kind v) (expr_in known kind e) b c d target value _ first second refl)
     (join_single (λ t x. roll-Stmt (Stmt-F.Set t x)) target value ∙ ap single (sym is)) made
 
 pub do_follows : (known : Known) (kind : RouteKind) (at : Place) (call : RawCall) (a b d : State) (within : Bool) (e : Option Expr) (s : Option Stmt) (r : Result (Option (List Stmt)) AllocError) →
-    Counts at a within b → Follows (call_in known kind call) b e d → s ≡ option_map (λ x. roll-Stmt (Stmt-F.Do x)) e → IfOk r (λ x. x ≡ within_limit within (single s)) →
+    Counts at a within b → Follows (call_in known kind call) b e d → s ≡ option_map (λ x. roll-Stmt (Stmt-F.Do x)) e → IfOk r (λ x. x ≡ single (within_limit within s)) →
     IfOk r (λ x. Follows (stmt_step known kind (RawStmt-F.Do at call)) a x d)
 do_follows known kind at call a b d within e s r counts first is made =
     alone at (one (λ x. roll-Stmt (Stmt-F.Do x) ∷ []) (call_in known kind call)) a b d within s (option_map (λ x. roll-Stmt (Stmt-F.Do x) ∷ []) e) r counts
@@ -87,7 +83,7 @@ do_follows known kind at call a b d within e s r counts first is made =
     (map_single (λ x. roll-Stmt (Stmt-F.Do x)) e ∙ ap single (sym is)) made
 
 pub return_follows : (known : Known) (kind : RouteKind) (at : Place) (e : Option RawExpr) (a b d : State) (within : Bool) (v : Option (Option Expr)) (s : Option Stmt) (r : Result (Option (List Stmt)) AllocError) →
-    Counts at a within b → Follows (maybe_expr known kind e) b v d → s ≡ option_map (λ x. roll-Stmt (Stmt-F.Return x)) v → IfOk r (λ x. x ≡ within_limit within (single s)) →
+    Counts at a within b → Follows (maybe_expr known kind e) b v d → s ≡ option_map (λ x. roll-Stmt (Stmt-F.Return x)) v → IfOk r (λ x. x ≡ single (within_limit within s)) →
     IfOk r (λ x. Follows (stmt_step known kind (RawStmt-F.Return at e)) a x d)
 return_follows known kind at e a b d within v s r counts first is made =
     alone at (one (λ x. roll-Stmt (Stmt-F.Return x) ∷ []) (maybe_expr known kind e)) a b d within s (option_map (λ x. roll-Stmt (Stmt-F.Return x) ∷ []) v) r counts
@@ -111,7 +107,7 @@ case_follows known kind item body' b d v r same h is =
 pub if_follows : (known : Known) (kind : RouteKind) (at : Place) (e : RawExpr) (m n : Checked (List Stmt)) (other : Option (Checked (List Stmt))) (a b c d f : State) (within : Bool)
     (test : Option Expr) (first second : Option (List Stmt)) (s : Option Stmt) (r : Result (Option (List Stmt)) AllocError) → n ≡ maybe other →
     Counts at a within b → Follows (expr_in known kind e) b test c → Follows m c first d → Follows n d second f →
-    s ≡ join {A = List Stmt → Stmt} (λ g x. g x) (join (λ e ss more. roll-Stmt (Stmt-F.If e ss more)) test first) second → IfOk r (λ x. x ≡ within_limit within (single s)) →
+    s ≡ join {A = List Stmt → Stmt} (λ g x. g x) (join (λ e ss more. roll-Stmt (Stmt-F.If e ss more)) test first) second → IfOk r (λ x. x ≡ single (within_limit within s)) →
     IfOk r (λ x. Follows (stmt_step known kind (RawStmt-F.If at e m other)) a x f)
 if_follows known kind at e m n other a b c d f within test first second s r same counts first_follows second_follows last is made =
     let last' : Follows (maybe other) d second f = subst (λ k. Follows k d second f) same last in
@@ -122,7 +118,7 @@ if_follows known kind at e m n other a b c d f within test first second s r same
 
 pub while_follows : (known : Known) (kind : RouteKind) (at : Place) (e : RawExpr) (m : Checked (List Stmt)) (a b c d : State) (within : Bool) (test : Option Expr) (body : Option (List Stmt)) (s : Option Stmt)
     (r : Result (Option (List Stmt)) AllocError) → Counts at a within b → Follows (expr_in known kind e) b test c → Follows m c body d →
-    s ≡ join (λ e ss. roll-Stmt (Stmt-F.While e ss)) test body → IfOk r (λ x. x ≡ within_limit within (single s)) → IfOk r (λ x. Follows (stmt_step known kind (RawStmt-F.While at e m)) a x d)
+    s ≡ join (λ e ss. roll-Stmt (Stmt-F.While e ss)) test body → IfOk r (λ x. x ≡ single (within_limit within s)) → IfOk r (λ x. Follows (stmt_step known kind (RawStmt-F.While at e m)) a x d)
 while_follows known kind at e m a b c d within test body s r counts first second is made =
     alone at (both (λ e ss. roll-Stmt (Stmt-F.While e ss) ∷ []) (expr_in known kind e) m) a b d within s (join (λ e ss. roll-Stmt (Stmt-F.While e ss) ∷ []) test body) r counts
     (follows_both (λ e ss. roll-Stmt (Stmt-F.While e ss) ∷ []) (expr_in known kind e) m b c d test body _ first second refl)
@@ -131,7 +127,7 @@ while_follows known kind at e m a b c d within test body s r counts first second
 pub switch_follows : (known : Known) (kind : RouteKind) (at : Place) (e : RawExpr) (cases : List (Val × List RawStmt)) (default : List RawStmt) (a b c d f : State) (within : Bool)
     (value : Option Expr) (bodies : Option (List (Val × List Stmt))) (last : Option (List Stmt)) (s : Option Stmt) (r : Result (Option (List Stmt)) AllocError) →
     Counts at a within b → Follows (expr_in known kind e) b value c → Follows (cases_in known kind cases) c bodies d → Follows (all_in (map (stmt_in known kind) default)) d last f →
-    s ≡ join {A = List Stmt → Stmt} (λ g x. g x) (join (λ e cs last. roll-Stmt (Stmt-F.Switch e cs last)) value bodies) last → IfOk r (λ x. x ≡ within_limit within (single s)) →
+    s ≡ join {A = List Stmt → Stmt} (λ g x. g x) (join (λ e cs last. roll-Stmt (Stmt-F.Switch e cs last)) value bodies) last → IfOk r (λ x. x ≡ single (within_limit within s)) →
     IfOk r (λ x. Follows (switch_in known kind at e cases default) a x f)
 switch_follows known kind at e cases default a b c d f within value bodies last s r counts value_follows cases_follow end is made =
     alone at (three (λ e cs last. roll-Stmt (Stmt-F.Switch e cs last) ∷ []) (expr_in known kind e) (cases_in known kind cases) (all_in (map (stmt_in known kind) default))) a b f within s

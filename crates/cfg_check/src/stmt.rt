@@ -18,13 +18,20 @@ use pv_values::{Place, Val};
 use sqlite_items::{Boxed, Items};
 use std::alloc::{AllocError as NoMemory, Global};
 
+/// What stands here, if its statement is one of those that a script may have.
+fn where_within<T: Drop>(within: bool, value: Option<T>) -> Option<T>
+    ensures { result ≡ within_limit within value }
+{
+    if within { value } else { None }
+}
+
 /// The one statement that stands here, if it is one of those that a script may have.
 fn alone(alloc: Global, within: bool, stmt: Option<Stmt>) -> Result<Option<Items<Stmt>>, NoMemory>
-    ensures { IfOk result (λ r. r ≡ within_limit within (option_map (λ s. s ∷ []) stmt)) }
+    ensures { IfOk result (λ r. r ≡ option_map (λ s. s ∷ []) (within_limit within stmt)) }
 {
-    match stmt {
-        Some(stmt) if within => Ok(Some(joins::one(alloc, stmt)?)),
-        _ => Ok(None),
+    match where_within(within, stmt) {
+        Some(stmt) => Ok(Some(joins::one(alloc, stmt)?)),
+        None => Ok(None),
     }
 }
 
@@ -72,13 +79,6 @@ fn selection(
     ensures { result ≡ join {A = List Meant → Meant} (λ g c. g c) (join (λ e cs last. roll-Stmt (Stmt-F.Switch e cs last)) value cases) default }
 {
     Some(Stmt::Switch(value?, cases?, default?))
-}
-
-/// The statements, if the one that holds them is one of those that a script may have.
-fn where_within(within: bool, stmts: Option<Items<Stmt>>) -> Option<Items<Stmt>>
-    ensures { result ≡ within_limit within stmts }
-{
-    if within { stmts } else { None }
 }
 
 /// A case with its label.
