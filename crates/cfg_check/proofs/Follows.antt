@@ -24,8 +24,8 @@ pub follows_both : {A B C : Type 0} (h : A → B → C) (f : Checked A) (g : Che
 follows_both h f g a b c v w r first second is = record {
   value_is = is ∙ ap (λ x. join h x w) first.value_is ∙ ap (λ x. join h (f a.seen).value x) (second.value_is ∙ ap (λ s. (g s).value) first.seen_is);
   refusals_are =
-    second.refusals_are ∙ ap (λ rs. rs ++ (g b.seen).refusals) first.refusals_are ∙ append_assoc a.refusals (f a.seen).refusals (g b.seen).refusals
-    ∙ ap (λ s. a.refusals ++ ((f a.seen).refusals ++ (g s).refusals)) first.seen_is;
+      second.refusals_are ∙ ap (λ rs. rs ++ (g b.seen).refusals) first.refusals_are ∙ append_assoc a.refusals (f a.seen).refusals (g b.seen).refusals
+      ∙ ap (λ s. a.refusals ++ ((f a.seen).refusals ++ (g s).refusals)) first.seen_is;
   seen_is = second.seen_is ∙ ap (λ s. (g s).seen) first.seen_is;
 }
 

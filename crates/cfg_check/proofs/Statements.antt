@@ -1,5 +1,5 @@
 -- What follows the check of a statement.
-use Rattle.std.proofs.Common.{◌≡◌, ℕ, Bool, true, false, List, [], ◌∷◌, map, Option, Some, None, refl, sym, ap, ◌∙◌, subst}
+use Rattle.std.proofs.Common.{◌≡◌, Bool, true, false, List, [], ◌∷◌, map, Option, Some, None, refl, sym, ap, ◌∙◌, subst}
 use Rattle.std.specs.Prelude.{IfOk, option_map}
 use Rattle.std.specs.declared.result.Result.{Result}
 use Rattle.std.specs.declared.alloc.AllocError.{AllocError}
@@ -24,7 +24,7 @@ use Rattle.cfg_tree.specs.Names.{Known}
 use Rattle.cfg_tree.specs.Refusals.{Checked, accepted, join, one, both, three, each}
 use Rattle.cfg_tree.specs.Checks.{expr_in, call_in, target_of, maybe_expr, maybe, numbered, all_in, stmt_step, stmt_in}
 use Rattle.cfg_check.specs.Following.{State, Follows, Counts, within_limit}
-use Rattle.cfg_check.specs.Cases.{case_in, cases_in, switch_in}
+use Rattle.cfg_check.specs.Cases.{Begins, case_in, cases_in, switch_in}
 use Rattle.cfg_check.proofs.Follows.{follows_accepted, follows_one, follows_both, follows_three, follows_numbered, ok_follows}
 
 abbrev pub single : Option Stmt → Option (List Stmt)
@@ -199,3 +199,59 @@ fits_group known kind s at ss ss' is same = rw (is, same)
 pub fits_empty : (known : Known) (kind : RouteKind) (s : RawStmt) (at : Place) → s ≡ raw.Empty at → Fits known kind (numbered at (accepted [])) s
 fits_empty known kind s at is = rw is
     (sym (ap (stmt_in known kind) (sym (raw.rolls-Empty at)) ∙ fold-roll-RawStmt (Checked (List Stmt)) (stmt_step known kind) (RawStmt-F.Empty at)))
+
+-- ---- statements with others in them, as a whole
+
+pairs : {X : Type 0} (f : Expr → X → Stmt) (within : Bool) (v : Option Expr) (x : Option X) →
+    option_map (λ (p : Expr × X). f p.0 p.1) (within_limit within (join (λ e y. (e, y)) v x)) ≡ within_limit within (join f v x)
+pairs f false v x = refl
+pairs f true None x = refl
+pairs f true (Some e) None = refl
+pairs f true (Some e) (Some x) = refl
+
+pair_and : {X : Type 0} (f : Expr → X → List Stmt → Stmt) (within : Bool) (v : Option Expr) (x : Option X) (z : Option (List Stmt)) →
+    join (λ (p : Expr × X) (o : List Stmt). f p.0 p.1 o) (within_limit within (join (λ e y. (e, y)) v x)) z ≡ within_limit within (join {A = List Stmt → Stmt} (λ g o. g o) (join f v x) z)
+pair_and f false v x z = refl
+pair_and f true None x z = refl
+pair_and f true (Some e) None z = refl
+pair_and f true (Some e) (Some x) None = refl
+pair_and f true (Some e) (Some x) (Some o) = refl
+
+pub if_stmt : (known : Known) (kind : RouteKind) (s : RawStmt) (at : Place) (e : RawExpr) (first first' : RawStmt) (other : Option RawStmt) (a d f : State) (begun : Option (Expr × List Stmt))
+    (others : Option (List Stmt)) (st : Option Stmt) (r : Result (Option (List Stmt)) AllocError) → s ≡ raw.If at e first other → first' ≡ first → Begins known kind at e (stmt_in known kind first') a begun d →
+    Follows (maybe (option_map (stmt_in known kind) other)) d others f → st ≡ join (λ (p : Expr × List Stmt) (more : List Stmt). roll-Stmt (Stmt-F.If p.0 p.1 more)) begun others → IfOk r (λ x. x ≡ single st) →
+    IfOk r (λ x. Follows (stmt_in known kind s) a x f)
+if_stmt known kind s at e first first' other a d f begun others st r is same h other_follows made answer =
+    let g : Expr → List Stmt → List Stmt → Stmt = λ e ss more. roll-Stmt (Stmt-F.If e ss more) in
+    let whole = join {A = List Stmt → Stmt} (λ g o. g o) (join g h.value h.second) others in
+    let st_is : st ≡ within_limit h.within whole = made ∙ ap (λ b. join (λ (p : Expr × List Stmt) (more : List Stmt). g p.0 p.1 more) b others) h.read_is ∙ pair_and g h.within h.value h.second others in
+    subst (λ k. IfOk r (λ x. Follows k a x f)) (fits_if known kind s at e first first' other is same)
+    (if_follows known kind at e (stmt_in known kind first') (maybe (option_map (stmt_in known kind) other)) (option_map (stmt_in known kind) other) a h.counted h.tested d f h.within h.value h.second others whole r refl
+    h.counts h.tests h.follows other_follows refl (subst (λ y. IfOk r (λ x. x ≡ single y)) st_is answer))
+
+pub while_stmt : (known : Known) (kind : RouteKind) (s : RawStmt) (at : Place) (e : RawExpr) (body body' : RawStmt) (a d : State) (begun : Option (Expr × List Stmt)) (st : Option Stmt)
+    (r : Result (Option (List Stmt)) AllocError) → s ≡ raw.While at e body → body' ≡ body → Begins known kind at e (stmt_in known kind body') a begun d →
+    st ≡ option_map (λ (p : Expr × List Stmt). roll-Stmt (Stmt-F.While p.0 p.1)) begun → IfOk r (λ x. x ≡ single st) → IfOk r (λ x. Follows (stmt_in known kind s) a x d)
+while_stmt known kind s at e body body' a d begun st r is same h made answer =
+    let g : Expr → List Stmt → Stmt = λ e ss. roll-Stmt (Stmt-F.While e ss) in
+    let st_is : st ≡ within_limit h.within (join g h.value h.second) = made ∙ ap (option_map (λ (p : Expr × List Stmt). g p.0 p.1)) h.read_is ∙ pairs g h.within h.value h.second in
+    subst (λ k. IfOk r (λ x. Follows k a x d)) (fits_while known kind s at e body body' is same)
+    (while_follows known kind at e (stmt_in known kind body') a h.counted h.tested d h.within h.value h.second (join g h.value h.second) r h.counts h.tests h.follows refl
+    (subst (λ y. IfOk r (λ x. x ≡ single y)) st_is answer))
+
+pub switch_stmt : (known : Known) (kind : RouteKind) (s : RawStmt) (at : Place) (e : RawExpr) (cases cases' : List (Val × List RawStmt)) (default default' : List RawStmt) (a d f : State)
+    (begun : Option (Expr × List (Val × List Stmt))) (last : Option (List Stmt)) (st : Option Stmt) (r : Result (Option (List Stmt)) AllocError) →
+    s ≡ raw.Switch at e cases default → cases' ≡ cases → default' ≡ default → Begins known kind at e (cases_in known kind cases') a begun d →
+    Follows (all_in (map (stmt_in known kind) default')) d last f → st ≡ join (λ (p : Expr × List (Val × List Stmt)) (more : List Stmt). roll-Stmt (Stmt-F.Switch p.0 p.1 more)) begun last →
+    IfOk r (λ x. x ≡ single st) → IfOk r (λ x. Follows (stmt_in known kind s) a x f)
+switch_stmt known kind s at e cases cases' default default' a d f begun last st r is same same' h lasts made answer =
+    let g : Expr → List (Val × List Stmt) → List Stmt → Stmt = λ e cs more. roll-Stmt (Stmt-F.Switch e cs more) in
+    let whole = join {A = List Stmt → Stmt} (λ g o. g o) (join g h.value h.second) last in
+    let st_is : st ≡ within_limit h.within whole = made ∙ ap (λ b. join (λ (p : Expr × List (Val × List Stmt)) (more : List Stmt). g p.0 p.1 more) b last) h.read_is ∙ pair_and g h.within h.value h.second last in
+    subst (λ k. IfOk r (λ x. Follows k a x f)) (fits_switch known kind s at e cases cases' default default' is same same')
+    (switch_follows known kind at e cases' default' a h.counted h.tested d f h.within h.value h.second last whole r h.counts h.tests h.follows lasts refl (subst (λ y. IfOk r (λ x. x ≡ single y)) st_is answer))
+
+pub case_answers : (known : Known) (kind : RouteKind) (item : Val × List RawStmt) (body' : List RawStmt) (b d : State) (v : Option (List Stmt)) (r : Result (Option (Val × List Stmt)) AllocError) → body' ≡ item.1 →
+    Follows (all_in (map (stmt_in known kind) body')) b v d → IfOk r (λ x. x ≡ option_map (λ ss. (item.0, ss)) v) → IfOk r (λ x. Follows (case_in known kind item) b x d)
+case_answers known kind item body' b d v r same h made =
+    ok_follows (case_in known kind item) b d (option_map (λ ss. (item.0, ss)) v) r (case_follows known kind item body' b d v _ same h refl) made

@@ -39,7 +39,7 @@ pub target_some : (known : Known) (kind : RouteKind) (v : RawVariable) (a b : St
 target_some known kind v a b p part t there h is =
     let read = layer_of known v.at v.variable a.seen in
     let found_is : found 10 v.at (target_in kind) read.refusals read.seen read.value ≡ found_as 10 v.at read.refusals read.seen (Some t) =
-      ap (found 10 v.at (target_in kind) read.refusals read.seen) (layer_some part read.value (sym there ∙ h.value_is)) ∙ ap (found_as 10 v.at read.refusals read.seen) (sym is) in
+    ap (found 10 v.at (target_in kind) read.refusals read.seen) (layer_some part read.value (sym there ∙ h.value_is)) ∙ ap (found_as 10 v.at read.refusals read.seen) (sym is) in
     record {
       value_is = sym (ap (λ o. o.value) found_is);
       refusals_are = h.refusals_are ∙ sym (ap (λ o. a.refusals ++ o.refusals) found_is);
@@ -51,7 +51,7 @@ target_not : (known : Known) (kind : RouteKind) (v : RawVariable) (a b c : State
 target_not known kind v a b c p part r there h is refusal =
     let read = layer_of known v.at v.variable a.seen in
     let found_is : found 10 v.at (target_in kind) read.refusals read.seen read.value ≡ found_as 10 v.at read.refusals read.seen None =
-      ap (found 10 v.at (target_in kind) read.refusals read.seen) (layer_some part read.value (sym there ∙ h.value_is)) ∙ ap (found_as 10 v.at read.refusals read.seen) (sym is) in
+    ap (found 10 v.at (target_in kind) read.refusals read.seen) (layer_some part read.value (sym there ∙ h.value_is)) ∙ ap (found_as 10 v.at read.refusals read.seen) (sym is) in
     let x : Refusal = record { kind = 10; at = v.at } in
     record {
       value_is = refusal.value_is ∙ sym (ap (λ o. o.value) found_is);

@@ -41,7 +41,7 @@ chain_follows known kind e a a' links links' r v w s t u is same sames first sec
     let two : Follows g t w u = subst (λ ls. Follows (each (map (link_in known kind) ls)) t w u) sames second in
     let both_are = follows_both (λ e ls. roll-Expr (Expr-F.Chain e ls)) f g s t u v w (join (λ e ls. roll-Expr (Expr-F.Chain e ls)) v w) one two refl in
     let whole : Follows (expr_in known kind e) s (join (λ e ls. roll-Expr (Expr-F.Chain e ls)) v w) u =
-      subst (λ m. Follows m s (join (λ e ls. roll-Expr (Expr-F.Chain e ls)) v w) u) (sym (ap (expr_in known kind) is ∙ chain_is known kind a links)) both_are in
+    subst (λ m. Follows m s (join (λ e ls. roll-Expr (Expr-F.Chain e ls)) v w) u) (sym (ap (expr_in known kind) is ∙ chain_is known kind a links)) both_are in
     ok_follows (expr_in known kind e) s u (join (λ e ls. roll-Expr (Expr-F.Chain e ls)) v w) r whole made
 
 matches_is : (known : Known) (kind : RouteKind) (a : RawExpr) (word : Word) →
@@ -59,5 +59,5 @@ matches_follows known kind e a a' word source r v w s t u is same text first sec
     let two : Follows g t w u = subst (λ x. Follows (pattern_number word.at x) t w u) text second in
     let both_are = follows_both (λ e p. roll-Expr (Expr-F.Matches e p)) f g s t u v w (join (λ e p. roll-Expr (Expr-F.Matches e p)) v w) one two refl in
     let whole : Follows (expr_in known kind e) s (join (λ e p. roll-Expr (Expr-F.Matches e p)) v w) u =
-      subst (λ m. Follows m s (join (λ e p. roll-Expr (Expr-F.Matches e p)) v w) u) (sym (ap (expr_in known kind) is ∙ matches_is known kind a word)) both_are in
+    subst (λ m. Follows m s (join (λ e p. roll-Expr (Expr-F.Matches e p)) v w) u) (sym (ap (expr_in known kind) is ∙ matches_is known kind a word)) both_are in
     ok_follows (expr_in known kind e) s u (join (λ e p. roll-Expr (Expr-F.Matches e p)) v w) r whole made

@@ -8,8 +8,8 @@ ghost use Rattle.cfg_tree.specs.Refusals.{refused};
 ghost use Rattle.cfg_settings.specs.Kinds.{number_of};
 ghost use Rattle.cfg_check.specs.Following.{State, Follows, Counts};
 
-use cfg_settings::{Kind, Refusal};
 use crate::vars::Names;
+use cfg_settings::{Kind, Refusal};
 use pv_values::{Pattern, PatternFault, Patterns, Place};
 use sqlite_items::Items;
 use std::alloc::{AllocError as NoMemory, Global};

@@ -10,10 +10,8 @@ ghost use Rattle.cfg_check.specs.Reading.{IsRead, IsJudged};
 
 use crate::block::blocks_in;
 use crate::checker::{Checker, number};
-use cfg_settings::settings_in;
 use crate::known::Known;
-use cfg_settings::{Kind, Refusal};
-use cfg_settings::Settings;
+use cfg_settings::{Kind, Refusal, Settings, settings_in};
 use cfg_tree::{RawScript, RouteKind, Script, Stmt};
 use pv_values::{BlockKind, Patterns, Place};
 use sqlite_items::Items;

@@ -1,14 +1,13 @@
 // Statements.
 
-ghost use Rattle.std.specs.Prelude.{◌≡◌, ◌∷◌, [], IfOk, List, map, option_map};
+ghost use Rattle.std.specs.Prelude.{◌≡◌, ◌∷◌, [], IfOk, map, option_map};
 ghost use Rattle.cfg_tree.specs.Checks.{stmt_step, stmt_in, all_in, maybe, maybe_expr, numbered};
-ghost use Rattle.cfg_tree.specs.Refusals.{accepted, join, each, one};
-ghost use Rattle.cfg_tree.specs.declared.script.Stmt.{Stmt as Meant};
+ghost use Rattle.cfg_tree.specs.Refusals.{accepted, join};
 ghost use Rattle.cfg_tree.specs.declared.script.Stmt.TheOpen.{Stmt-F};
 ghost use Rattle.cfg_tree.specs.declared.script.Stmt.TheViews.{roll-Stmt};
 ghost use Rattle.cfg_tree.specs.declared.raw.RawStmt.TheOpen.{RawStmt-F};
 ghost use Rattle.cfg_check.specs.Following.{Follows, within_limit};
-ghost use Rattle.cfg_check.specs.Cases.{case_in, cases_in, switch_in};
+ghost use Rattle.cfg_check.specs.Cases.{Begins, case_in, cases_in};
 
 use crate::checker::Checker;
 use crate::joins::{self, with_item, with_items};
@@ -25,14 +24,21 @@ fn where_within<T: Drop>(within: bool, value: Option<T>) -> Option<T>
     if within { value } else { None }
 }
 
+/// The list of the statement, where there is one.
+fn single(alloc: Global, stmt: Option<Stmt>) -> Result<Option<Items<Stmt>>, NoMemory>
+    ensures { IfOk result (λ r. r ≡ option_map (λ s. s ∷ []) stmt) }
+{
+    match stmt {
+        Some(stmt) => Ok(Some(joins::one(alloc, stmt)?)),
+        None => Ok(None),
+    }
+}
+
 /// The one statement that stands here, if it is one of those that a script may have.
 fn alone(alloc: Global, within: bool, stmt: Option<Stmt>) -> Result<Option<Items<Stmt>>, NoMemory>
     ensures { IfOk result (λ r. r ≡ option_map (λ s. s ∷ []) (within_limit within stmt)) }
 {
-    match where_within(within, stmt) {
-        Some(stmt) => Ok(Some(joins::one(alloc, stmt)?)),
-        None => Ok(None),
-    }
+    single(alloc, where_within(within, stmt))
 }
 
 /// A call as a statement.
@@ -55,34 +61,39 @@ fn assignment(target: Option<Target>, value: Option<Expr>) -> Option<Stmt>
     Some(Stmt::Set(target?, value?))
 }
 
-fn choice(
-    test: Option<Expr>,
-    first: Option<Items<Stmt>>,
-    other: Option<Items<Stmt>>,
-) -> Option<Stmt>
-    ensures { result ≡ join {A = List Meant → Meant} (λ g c. g c) (join (λ e ss more. roll-Stmt (Stmt-F.If e ss more)) test first) other }
+/// Two values as one.
+fn pair<T: Drop>(first: Option<Expr>, second: Option<T>) -> Option<(Expr, T)>
+    ensures { result ≡ join (λ e x. (e, x)) first second }
 {
-    Some(Stmt::If(test?, first?, other?))
+    Some((first?, second?))
 }
 
-fn repetition(test: Option<Expr>, body: Option<Items<Stmt>>) -> Option<Stmt>
-    ensures { result ≡ join (λ e ss. roll-Stmt (Stmt-F.While e ss)) test body }
+fn choice(begun: Option<(Expr, Items<Stmt>)>, other: Option<Items<Stmt>>) -> Option<Stmt>
+    ensures { result ≡ join (λ p more. roll-Stmt (Stmt-F.If p.0 p.1 more)) begun other }
 {
-    Some(Stmt::While(test?, body?))
+    let (test, first) = begun?;
+    Some(Stmt::If(test, first, other?))
+}
+
+fn repetition(begun: Option<(Expr, Items<Stmt>)>) -> Option<Stmt>
+    ensures { result ≡ option_map (λ p. roll-Stmt (Stmt-F.While p.0 p.1)) begun }
+{
+    let (test, body) = begun?;
+    Some(Stmt::While(test, body))
 }
 
 fn selection(
-    value: Option<Expr>,
-    cases: Option<Items<(Val, Items<Stmt>)>>,
+    begun: Option<(Expr, Items<(Val, Items<Stmt>)>)>,
     default: Option<Items<Stmt>>,
 ) -> Option<Stmt>
-    ensures { result ≡ join {A = List Meant → Meant} (λ g c. g c) (join (λ e cs last. roll-Stmt (Stmt-F.Switch e cs last)) value cases) default }
+    ensures { result ≡ join (λ p last. roll-Stmt (Stmt-F.Switch p.0 p.1 last)) begun default }
 {
-    Some(Stmt::Switch(value?, cases?, default?))
+    let (value, cases) = begun?;
+    Some(Stmt::Switch(value, cases, default?))
 }
 
 /// A case with its label.
-fn case(
+fn labelled(
     alloc: Global,
     label: &Val,
     body: Option<Items<Stmt>>,
@@ -194,63 +205,40 @@ impl Checker {
         Ok(where_within(within, Some(nothing)))
     }
 
-    /// `if`, with its statement, and the one behind `else`.
+    /// What an expression and a statement behind it begin: the one that they stand in is counted first.
     #[cycle(stmts)]
-    fn chosen(
+    fn with_stmt(
         &mut self,
         known: &Known,
         kind: RouteKind,
+        s: &RawStmt,
         at: Place,
         e: &RawExpr,
-        first: &RawStmt,
-        other: &Option<Boxed<RawStmt>>,
-    ) -> Result<Option<Items<Stmt>>, NoMemory>
-        ensures { IfOk result (λ r. Follows (stmt_step known.now kind (RawStmt-F.If at e.now (stmt_in known.now kind first.now)
-            (option_map (stmt_in known.now kind) other.now))) self.old r self.new) }
+    ) -> Result<Option<(Expr, Items<Stmt>)>, NoMemory>
+        ensures { IfOk result (λ r. Begins known.now kind at e.now (stmt_in known.now kind s.now) self.old r self.new) }
     {
         let within = self.count(at)?;
-        let test = self.expr(known, kind, e)?;
-        let first = self.stmt(known, kind, first)?;
-        let other = self.otherwise(known, kind, other)?;
-        alone(self.alloc(), within, choice(test, first, other))
+        let value = self.expr(known, kind, e)?;
+        let stmts = self.stmt(known, kind, s)?;
+        Ok(where_within(within, pair(value, stmts)))
     }
 
-    /// `while`, with its statement.
+    /// What an expression and the cases behind it begin: the statement that they stand in is counted first.
     #[cycle(stmts)]
-    fn repeated(
+    fn with_cases(
         &mut self,
         known: &Known,
         kind: RouteKind,
-        at: Place,
-        e: &RawExpr,
-        body: &RawStmt,
-    ) -> Result<Option<Items<Stmt>>, NoMemory>
-        ensures { IfOk result (λ r. Follows (stmt_step known.now kind (RawStmt-F.While at e.now (stmt_in known.now kind body.now))) self.old r self.new) }
-    {
-        let within = self.count(at)?;
-        let test = self.expr(known, kind, e)?;
-        let body = self.stmt(known, kind, body)?;
-        alone(self.alloc(), within, repetition(test, body))
-    }
-
-    /// `switch`, with its cases and its default.
-    #[cycle(stmts)]
-    fn selected(
-        &mut self,
-        known: &Known,
-        kind: RouteKind,
-        at: Place,
-        e: &RawExpr,
         cases: &[(Val, Items<RawStmt>)],
-        default: &[RawStmt],
-    ) -> Result<Option<Items<Stmt>>, NoMemory>
-        ensures { IfOk result (λ r. Follows (switch_in known.now kind at e.now cases.now default.now) self.old r self.new) }
+        at: Place,
+        e: &RawExpr,
+    ) -> Result<Option<(Expr, Items<(Val, Items<Stmt>)>)>, NoMemory>
+        ensures { IfOk result (λ r. Begins known.now kind at e.now (cases_in known.now kind cases.now) self.old r self.new) }
     {
         let within = self.count(at)?;
         let value = self.expr(known, kind, e)?;
         let cases = self.cases(known, kind, cases)?;
-        let default = self.stmts(known, kind, default)?;
-        alone(self.alloc(), within, selection(value, cases, default))
+        Ok(where_within(within, pair(value, cases)))
     }
 
     /// `{ .. }`
@@ -259,8 +247,8 @@ impl Checker {
         &mut self,
         known: &Known,
         kind: RouteKind,
-        at: Place,
         stmts: &[RawStmt],
+        at: Place,
     ) -> Result<Option<Items<Stmt>>, NoMemory>
         ensures { IfOk result (λ r. Follows (numbered at (all_in (map (stmt_in known.now kind) stmts.now))) self.old r self.new) }
     {
@@ -281,11 +269,18 @@ impl Checker {
     {
         match s {
             RawStmt::If(at, e, first, other) => {
-                self.chosen(known, kind, *at, e, first.get(), other)
+                let begun = self.with_stmt(known, kind, first.get(), *at, e)?;
+                let other = self.otherwise(known, kind, other)?;
+                single(self.alloc(), choice(begun, other))
             }
-            RawStmt::While(at, e, body) => self.repeated(known, kind, *at, e, body.get()),
+            RawStmt::While(at, e, body) => {
+                let begun = self.with_stmt(known, kind, body.get(), *at, e)?;
+                single(self.alloc(), repetition(begun))
+            }
             RawStmt::Switch(at, e, cases, default) => {
-                self.selected(known, kind, *at, e, cases.as_slice(), default.as_slice())
+                let begun = self.with_cases(known, kind, cases.as_slice(), *at, e)?;
+                let default = self.stmts(known, kind, default.as_slice())?;
+                single(self.alloc(), selection(begun, default))
             }
             RawStmt::Set(at, v, e) => self.assigned(known, kind, *at, v, e),
             RawStmt::Do(at, call) => self.called(known, kind, *at, call),
@@ -293,7 +288,7 @@ impl Checker {
             RawStmt::Exit(at) => self.exit(*at),
             RawStmt::Drop(at) => self.dropped(*at),
             RawStmt::Break(at) => self.broken(*at),
-            RawStmt::Group(at, stmts) => self.grouped(known, kind, *at, stmts.as_slice()),
+            RawStmt::Group(at, stmts) => self.grouped(known, kind, stmts.as_slice(), *at),
             RawStmt::Empty(at) => self.empty(*at),
         }
     }
@@ -344,9 +339,23 @@ impl Checker {
     {
         let mut all = Some(Items::new(self.alloc()));
         for item in cases {
-            let body = self.stmts(known, kind, item.1.as_slice())?;
-            all = with_item(all, case(self.alloc(), &item.0, body)?)?;
+            let one = self.case(known, kind, item)?;
+            all = with_item(all, one)?;
         }
         Ok(all)
+    }
+
+    /// A case with its label.
+    #[cycle(stmts)]
+    fn case(
+        &mut self,
+        known: &Known,
+        kind: RouteKind,
+        item: &(Val, Items<RawStmt>),
+    ) -> Result<Option<(Val, Items<Stmt>)>, NoMemory>
+        ensures { IfOk result (λ r. Follows (case_in known.now kind item.now) self.old r self.new) }
+    {
+        let body = self.stmts(known, kind, item.1.as_slice())?;
+        labelled(self.alloc(), &item.0, body)
     }
 }

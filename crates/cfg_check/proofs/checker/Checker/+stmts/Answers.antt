@@ -1,37 +1,53 @@
-use Rattle.std.proofs.Common.{refl}
-use Rattle.cfg_tree.specs.Checks.{stmt_in, all_in}
+use Rattle.std.proofs.Common.{◌∙◌, ap}
+use Rattle.cfg_check.specs.Following.{within_limit}
 use Rattle.cfg_check.specs.Cases.{case_in}
+use Rattle.cfg_tree.specs.Checks.{stmt_in, all_in}
 use Rattle.cfg_check.proofs.Expansions.{answered}
 use Rattle.cfg_check.proofs.Follows.{each_item, all_item}
-use Rattle.cfg_check.proofs.Statements.{if_follows, while_follows, switch_follows, group_follows, case_follows, fits_if, fits_while, fits_switch, fits_set, fits_do, fits_return, fits_exit, fits_drop, fits_break, fits_group, fits_empty}
+use Rattle.cfg_check.proofs.Statements.{if_stmt, while_stmt, switch_stmt, case_answers, fits_set, fits_do, fits_return, fits_exit, fits_drop, fits_break, fits_group, fits_empty}
 use Rattle.cfg_check.proofs.checker.Checker.+stmts.Goals as goal
 
-pub chosen-returns-in_ok-other : goal.chosen-returns-in_ok-other
-chosen-returns-in_ok-other t c =
-    if_follows c.args.known.now c.args.kind c.args.at c.args.e.now _ _ _ _ _ _ _ _ _ _ _ _ _ c.alone.result refl c.in_ok-within.ensures c.in_ok-test.ensures c.in_ok-first.ensures c.in_ok-other.ensures
-    c.choice.ensures c.alone.ensures
+pub with_stmt-returns : goal.with_stmt-returns
+with_stmt-returns t c = record {
+  within = c.in_ok-within.within;
+  value = c.in_ok-value.value;
+  second = c.in_ok-stmts.stmts;
+  counted = c.count.new.self;
+  tested = c.expr.new.self;
+  counts = c.in_ok-within.ensures;
+  tests = c.in_ok-value.ensures;
+  follows = c.in_ok-stmts.ensures;
+  read_is = c.where_within.ensures ∙ ap (within_limit c.in_ok-within.within) c.pair.ensures;
+}
 
-pub repeated-returns-in_ok-body : goal.repeated-returns-in_ok-body
-repeated-returns-in_ok-body t c =
-    while_follows c.args.known.now c.args.kind c.args.at c.args.e.now _ _ _ _ _ _ _ _ _ c.alone.result c.in_ok-within.ensures c.in_ok-test.ensures c.in_ok-body.ensures c.repetition.ensures c.alone.ensures
+pub with_cases-returns : goal.with_cases-returns
+with_cases-returns t c = record {
+  within = c.in_ok-within.within;
+  value = c.in_ok-value.value;
+  second = c.in_ok-cases.cases;
+  counted = c.count.new.self;
+  tested = c.expr.new.self;
+  counts = c.in_ok-within.ensures;
+  tests = c.in_ok-value.ensures;
+  follows = c.in_ok-cases.ensures;
+  read_is = c.where_within.ensures ∙ ap (within_limit c.in_ok-within.within) c.pair.ensures;
+}
 
-pub selected-returns-in_ok-default : goal.selected-returns-in_ok-default
-selected-returns-in_ok-default t c =
-    switch_follows c.args.known.now c.args.kind c.args.at c.args.e.now c.args.cases.now c.args.default.now _ _ _ _ _ _ _ _ _ _ c.alone.result c.in_ok-within.ensures c.in_ok-value.ensures c.in_ok-cases.ensures
-    c.in_ok-default.ensures c.selection.ensures c.alone.ensures
+pub stmt-returns-in_ok-other-in-If : goal.stmt-returns-in_ok-other-in-If
+stmt-returns-in_ok-other-in-If t c =
+    if_stmt c.args.known.now c.args.kind c.args.s.now c.in-If.at c.in-If.e c.in-If.first c.get.result.now c.in-If.other c.args.self.now c.with_stmt.new.self c.otherwise.new.self
+    c.in_ok-begun-in-If.begun c.in_ok-other-in-If.other c.choice.result c.single.result c.in-If.is c.get.ensures c.in_ok-begun-in-If.ensures c.in_ok-other-in-If.ensures c.choice.ensures c.single.ensures
 
-pub grouped-returns-in_ok-stmts : goal.grouped-returns-in_ok-stmts
-grouped-returns-in_ok-stmts t c = group_follows c.args.at _ _ _ _ _ _ _ c.in_ok-within.ensures c.in_ok-stmts.ensures c.where_within.ensures
+pub stmt-returns-in_ok-begun-in-While : goal.stmt-returns-in_ok-begun-in-While
+stmt-returns-in_ok-begun-in-While t c =
+    while_stmt c.args.known.now c.args.kind c.args.s.now c.in-While.at c.in-While.e c.in-While.body c.get-in-While.result.now c.args.self.now c.with_stmt-in-While.new.self
+    c.in_ok-begun-in-While.begun c.repetition.result c.single-in-While.result c.in-While.is c.get-in-While.ensures c.in_ok-begun-in-While.ensures c.repetition.ensures c.single-in-While.ensures
 
-pub stmt-returns-in-If : goal.stmt-returns-in-If
-stmt-returns-in-If t c = answered c.chosen.result _ _ _ _ (fits_if c.args.known.now c.args.kind c.args.s.now c.in-If.at c.in-If.e c.in-If.first _ c.in-If.other c.in-If.is c.get.ensures) c.chosen.ensures
-
-pub stmt-returns-in-While : goal.stmt-returns-in-While
-stmt-returns-in-While t c = answered c.repeated.result _ _ _ _ (fits_while c.args.known.now c.args.kind c.args.s.now c.in-While.at c.in-While.e c.in-While.body _ c.in-While.is c.get-in-While.ensures) c.repeated.ensures
-
-pub stmt-returns-in-Switch : goal.stmt-returns-in-Switch
-stmt-returns-in-Switch t c =
-    answered c.selected.result _ _ _ _ (fits_switch c.args.known.now c.args.kind c.args.s.now c.in-Switch.at c.in-Switch.e c.in-Switch.cases _ c.in-Switch.default _ c.in-Switch.is c.as_slice.ensures c.as_slice-2.ensures) c.selected.ensures
+pub stmt-returns-in_ok-default-in-Switch : goal.stmt-returns-in_ok-default-in-Switch
+stmt-returns-in_ok-default-in-Switch t c =
+    switch_stmt c.args.known.now c.args.kind c.args.s.now c.in-Switch.at c.in-Switch.e c.in-Switch.cases c.as_slice.result.now c.in-Switch.default c.as_slice-in-Switch.result.now c.args.self.now
+    c.with_cases.new.self c.stmts.new.self c.in_ok-begun-in-Switch.begun c.in_ok-default-in-Switch.default c.selection.result c.single-in-Switch.result c.in-Switch.is c.as_slice.ensures c.as_slice-in-Switch.ensures
+    c.in_ok-begun-in-Switch.ensures c.in_ok-default-in-Switch.ensures c.selection.ensures c.single-in-Switch.ensures
 
 pub stmt-returns-in-Set : goal.stmt-returns-in-Set
 stmt-returns-in-Set t c = answered c.assigned.result _ _ _ _ (fits_set c.args.known.now c.args.kind c.args.s.now c.in-Set.at c.in-Set.v c.in-Set.e c.in-Set.is) c.assigned.ensures
@@ -64,4 +80,7 @@ stmts-loop-s-preserved t c =
 pub cases-loop-item-preserved : goal.cases-loop-item-preserved
 cases-loop-item-preserved t c =
     each_item (case_in c.args.known.now c.args.kind) c.args.cases.now c.loop-item.item-index c.item-item.result _ _ _ _ _ _ c.loop-item-test.true c.item-item.is c.loop-item.invariant
-    (case_follows c.args.known.now c.args.kind c.item-item.result _ _ _ _ _ c.as_slice.ensures c.in_ok-body.ensures c.in_ok-case.ensures) c.in_ok-all.ensures
+    c.in_ok-one.ensures c.in_ok-all.ensures
+
+pub case-returns : goal.case-returns
+case-returns t c = case_answers c.args.known.now c.args.kind c.args.item.now c.as_slice.result.now _ _ _ c.labelled.result c.as_slice.ensures c.in_ok-body.ensures c.labelled.ensures
