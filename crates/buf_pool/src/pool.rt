@@ -1,5 +1,5 @@
 //! The pool and its blocks.
-ghost use Rattle.std.specs.Prelude.{◌≡◌, ℕ, ◌+◌, ◌-◌, ◌<◌, IfOk, IfSome, IfNone, OnErr, length, vec_len};
+ghost use Rattle.std.specs.Prelude.{◌≡◌, ℕ, ◌+◌, ◌-◌, ◌<◌, IfOk, IfSome, IfNone, length, vec_len};
 
 use crate::ledger::{Ledger, Share};
 use std::alloc::{AllocError as NoMemory, Global};
@@ -54,56 +54,57 @@ impl Block {
 /// A pool of blocks. A clause sees which pool it is, and how many of its blocks are free and how many are out.
 #[derive(Drop)]
 pub struct Pool {
-    alloc: Global,
     ledger: Ledger,
-    free: u32,
+    free: Vec<Vec<u8>>,
 }
 
 impl Model for Pool {
-    ghost use Rattle.std.specs.Prelude.{◌+◌, ◌<◌, ◌^◌};
+    ghost use Rattle.std.specs.Prelude.{◌≡◌, ◌+◌, ◌<◌, ◌≤◌, ◌^◌, All, vec_len, vec_capacity};
     ghost use Rattle.buf_pool.specs.Pools.{PoolState, pool_code};
+    ghost use Rattle.buf_pool.specs.declared.pool.TheConstants.{BLOCK_SIZE};
 
     ghost Value = { PoolState };
 
     ghost coded = { pool_code };
 
-    ghost view = { λ p. record { name = p.ledger.name; free = p.free; out = p.ledger.out } };
+    ghost view = { λ p. record { name = p.ledger.name; free = vec_len p.free; out = p.ledger.out } };
 
-    ghost invariant = { λ p. p.free + p.ledger.out < 2 ^ 32 };
+    ghost invariant = { λ p. record {
+      counted : vec_len p.free + p.ledger.out < 2 ^ 32;
+      room : vec_len p.free + p.ledger.out ≤ vec_capacity p.free;
+      whole : All (λ memory. vec_len memory ≡ BLOCK_SIZE) p.free.items;
+    } };
 }
 
 impl Pool {
     ghost use Rattle.buf_pool.specs.Pools.{size_of, after_take, after_give};
 
-    /// A pool of this many blocks, all of them free. The memory of a block is taken when the block is.
+    /// A pool of this many blocks, all of them free. The memory of all of them is taken here, `BLOCK_SIZE` bytes a block,
+    /// and their bytes are 0. No later call takes memory or clears any.
     pub fn new(alloc: Global, blocks: u32) -> Result<Pool, NoMemory>
         ensures free { IfOk result (λ pool. pool.free ≡ blocks) }
         ensures out { IfOk result (λ pool. pool.out ≡ 0) }
     {
-        Ok(Pool {
-            alloc,
-            ledger: Ledger::open(alloc)?,
-            free: blocks,
-        })
+        let ledger = Ledger::open(alloc)?;
+        let mut free = Vec::with_capacity(alloc, blocks as usize)?;
+        for _block in 0..blocks {
+            free.push_reserved(vec![in alloc; 0; BLOCK_SIZE]?);
+        }
+        Ok(Pool { ledger, free })
     }
 
-    /// Takes a block, where one is free.
-    pub fn take(&mut self) -> Result<Option<Block>, NoMemory>
-        ensures block { IfOk result (λ taken. IfSome taken (λ block. (block.pool ≡ self.old.name) × (0 < self.old.free) × (self.new ≡ after_take self.old))) }
+    /// Takes a block, where one is free. Its bytes are not cleared.
+    pub fn take(&mut self) -> Option<Block>
+        ensures block { IfSome result (λ block. (block.pool ≡ self.old.name) × (0 < self.old.free) × (self.new ≡ after_take self.old)) }
 
         // None comes exactly where no block is free.
-        ensures none { IfOk result (λ taken. IfNone taken ((self.old.free ≡ 0) × (self.new ≡ self.old))) }
-        ensures no_memory { OnErr result ((0 < self.old.free) × (self.new ≡ self.old)) }
+        ensures none { IfNone result ((self.old.free ≡ 0) × (self.new ≡ self.old)) }
         ensures name { self.new.name ≡ self.old.name }
         ensures size { size_of self.new ≡ size_of self.old }
     {
-        if self.free == 0 {
-            return Ok(None);
-        }
-        let memory = vec![in self.alloc; 0; BLOCK_SIZE]?;
+        let memory = self.free.pop()?;
         let share = self.ledger.lend();
-        self.free -= 1;
-        Ok(Some(Block { memory, share }))
+        Some(Block { memory, share })
     }
 
     /// Takes a block back, which is free again.
@@ -114,15 +115,15 @@ impl Pool {
         ensures name { self.new.name ≡ self.old.name }
         ensures size { size_of self.new ≡ size_of self.old }
     {
-        let Block { memory: _, share } = block;
+        let Block { memory, share } = block;
         self.ledger.take_back(share);
-        self.free += 1;
+        self.free.push_reserved(memory);
     }
 
     /// How many blocks are free.
     pub fn free(&self) -> u32
         ensures { result ≡ self.now.free }
     {
-        self.free
+        self.free.len() as u32
     }
 }

@@ -15,7 +15,7 @@ fn next(rt: &impl Abort, pool: &mut Pool, left: u32) -> Result<Block, Fail>
     ensures name { pool.new.name ≡ pool.old.name }
     ensures block { IfOk result (λ block. block.pool ≡ pool.old.name) }
 {
-    let block = pool.take()?.ok_or("no block is free")?;
+    let block = pool.take().ok_or("no block is free")?;
     assert_eq!(rt; pool.free(), left);
     Ok(block)
 }
@@ -23,7 +23,7 @@ fn next(rt: &impl Abort, pool: &mut Pool, left: u32) -> Result<Block, Fail>
 fn no_more(rt: &impl Abort, pool: &mut Pool) -> Result<(), Fail>
     ensures { pool.new.name ≡ pool.old.name }
 {
-    assert!(rt; pool.take()?.is_none());
+    assert!(rt; pool.take().is_none());
     Ok(())
 }
 

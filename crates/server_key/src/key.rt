@@ -1,9 +1,9 @@
-//! Keys, shown and kept.
+//! Keys, shown and kept (RFC 3261, section 17.2.3).
 ghost use Rattle.std.specs.Prelude.{◌≡◌, ◌↔◌, IsTrue, IfOk};
 ghost use Rattle.std.specs.Str.{str_to_ascii_lowercase};
 
-use crate::bytes::Bytes;
 use std::alloc::{AllocError as NoMemory, Global};
+use std::marker::Model;
 
 /// A key in the bytes of a message.
 #[derive(Clone, Copy, Debug)]
@@ -17,14 +17,31 @@ pub struct KeyView<'a> {
     pub method: &'a [u8],
 }
 
-/// A key that is kept. The letters of its host are in lower case, so that two views are of one key where they show the
-/// same `Key`.
+/// A key that is kept, in one piece of memory. The letters of its host are in lower case, so that two views are of one key
+/// where they show the same `Key`. A clause sees its four parts.
 #[derive(Debug, Drop)]
 pub struct Key {
-    branch: Bytes,
-    host: Bytes,
+    /// The host, then the branch, then the method.
+    bytes: Vec<u8>,
+    host_end: usize,
+    branch_end: usize,
     port: u16,
-    method: Bytes,
+}
+
+impl Model for Key {
+    ghost use Rattle.std.specs.Prelude.{◌≤◌, drop, slice_range, take, vec_len};
+    ghost use Rattle.server_key.specs.KeyParts.{KeyParts};
+
+    ghost Value = { KeyParts };
+
+    ghost view = { λ k. record {
+      branch = slice_range k.bytes.items k.host_end k.branch_end;
+      host = take k.host_end k.bytes.items;
+      port = k.port;
+      method = drop k.branch_end k.bytes.items;
+    } };
+
+    ghost invariant = { λ k. (k.host_end ≤ k.branch_end) × (k.branch_end ≤ vec_len k.bytes) };
 }
 
 impl KeyView<'_> {
@@ -45,26 +62,54 @@ impl KeyView<'_> {
 impl Key {
     ghost use Rattle.server_key.specs.Keys.{shown_key};
 
-    /// A copy of the key that is shown.
+    /// A copy of the key that is shown. It takes memory once.
     pub fn copy_of(alloc: Global, view: KeyView) -> Result<Key, NoMemory>
         ensures { IfOk result (λ key. key ≡ shown_key view.entry) }
     {
+        // A sum that no usize holds is more than any allocator has.
+        let length = view.host.len().saturating_add(view.branch.len());
+        let length = length.saturating_add(view.method.len());
+        let mut bytes = Vec::with_capacity(alloc, length)?;
+        bytes.extend_from_slice(view.host)?;
+        bytes.as_mut_slice().make_ascii_lowercase();
+        let host_end = bytes.len();
+        bytes.extend_from_slice(view.branch)?;
+        let branch_end = bytes.len();
+        bytes.extend_from_slice(view.method)?;
         Ok(Key {
-            branch: Bytes::copy_of(alloc, view.branch)?,
-            host: Bytes::lowercase_of(alloc, view.host)?,
+            bytes,
+            host_end,
+            branch_end,
             port: view.port,
-            method: Bytes::copy_of(alloc, view.method)?,
         })
     }
 
-    /// Whether the view shows this key.
+    /// Whether the view shows this key. It takes no memory.
     pub fn is_shown_by(&self, view: KeyView) -> bool
         ensures { IsTrue result ↔ (self.now ≡ shown_key view.entry) }
     {
-        self.branch.as_slice() == view.branch
-            && is_lowercase_of(self.host.as_slice(), view.host)
+        self.branch() == view.branch
+            && is_lowercase_of(self.host(), view.host)
             && self.port == view.port
-            && self.method.as_slice() == view.method
+            && self.method() == view.method
+    }
+
+    fn host(&self) -> &[u8]
+        ensures { result.now ≡ self.now.host }
+    {
+        &self.bytes[..self.host_end]
+    }
+
+    fn branch(&self) -> &[u8]
+        ensures { result.now ≡ self.now.branch }
+    {
+        &self.bytes[self.host_end..self.branch_end]
+    }
+
+    fn method(&self) -> &[u8]
+        ensures { result.now ≡ self.now.method }
+    {
+        &self.bytes[self.branch_end..]
     }
 }
 

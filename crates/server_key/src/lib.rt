@@ -5,10 +5,8 @@
 //! where their hosts are equal without regard to case and their other parts byte by byte.
 #![tactic(auto)]
 
-mod bytes;
 mod key;
 
-pub use bytes::Bytes;
 pub use key::{Key, KeyView};
 
 #[cfg(test)]

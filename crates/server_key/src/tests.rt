@@ -59,6 +59,15 @@ fn keys_are_one_without_regard_to_the_case_of_the_host_alone(rt: HostRuntime) ->
             view(b"z9hG4bKnashds8", b"Pc33.Atlanta.COM", 5060, b"BYE"),
             false,
         ),
+        // The same bytes one after the other, cut at other places.
+        (
+            view(b"Mz9hG4bKnashds8", b"Pc33.Atlanta.CO", 5060, b"INVITE"),
+            false,
+        ),
+        (
+            view(b"z9hG4bKnashds8I", b"Pc33.Atlanta.COM", 5060, b"NVITE"),
+            false,
+        ),
     ];
     let kept = into_thread(Key::copy_of(rt.alloc(), first)?);
     for (other, want) in cases {

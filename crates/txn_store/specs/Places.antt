@@ -10,9 +10,13 @@ use Rattle.txn_store.specs.declared.index.IndexEnd.TheVariants.{Old, New, Full}
 abbrev pub Places : Type 0
 Places = List Place
 
+-- no slot holds a key, and each is of this generation
+abbrev pub vacant_places_of : ℕ → ℕ → Places
+vacant_places_of slots generation = replicate slots (record { generation = generation; key = None })
+
 -- no slot holds a key yet, and each is of generation 0
 abbrev pub vacant_places : ℕ → Places
-vacant_places slots = replicate slots (record { generation = 0; key = None })
+vacant_places slots = vacant_places_of slots 0
 
 -- the slot is of this generation and holds the key
 abbrev pub Holds : Places → ℕ → ℕ → Key → Type 0

@@ -2,7 +2,7 @@
 ghost use Rattle.std.specs.Prelude.{◌≡◌, ℕ, ◌^◌, ◌<◌, ◌↔◌, List, Some, None, IsTrue, IfOk, IfSome, IfNone, OnErr, length};
 ghost use Rattle.server_key.specs.Keys.{shown_key};
 
-use crate::scan::{holder, lowest_free};
+use crate::scan::{end_of_claim, holder};
 use server_key::{Key, KeyView};
 use std::alloc::{AllocError as NoMemory, Global};
 use std::marker::Model;
@@ -21,7 +21,7 @@ pub enum IndexEnd {
 /// A slot's place in the index.
 #[derive(Debug, Drop)]
 pub struct Place {
-    /// How often the slot was freed.
+    /// How often the slot was freed. At the greatest u64 it stands still.
     pub generation: u64,
     /// The key of its transaction.
     pub key: Option<Key>,
@@ -60,16 +60,27 @@ impl Model for Index {
 }
 
 impl Index {
-    ghost use Rattle.txn_store.specs.Places.{vacant_places, Holds, IsHeldNowhere, SomeIsFree, EachKeyIsOnce, ClaimAnswers, after_claim, after_free};
+    ghost use Rattle.txn_store.specs.Places.{vacant_places, vacant_places_of, Holds, IsHeldNowhere, SomeIsFree, EachKeyIsOnce, ClaimAnswers, after_claim, after_free};
 
     /// An index of this many slots, which hold no key and are of generation 0.
     pub fn new(alloc: Global, slots: u32) -> Result<Index, NoMemory>
         ensures { IfOk result (λ index. index ≡ vacant_places slots) }
     {
+        Index::of_generation(alloc, slots, 0)
+    }
+
+    /// An index of this many slots, which hold no key and are of this generation.
+    pub(crate) fn of_generation(
+        alloc: Global,
+        slots: u32,
+        generation: u64,
+    ) -> Result<Index, NoMemory>
+        ensures { IfOk result (λ index. index ≡ vacant_places_of slots generation) }
+    {
         let mut places = Vec::with_capacity(alloc, slots as usize)?;
         for _slot in 0..slots {
             places.push_reserved(Place {
-                generation: 0,
+                generation,
                 key: None,
             });
         }
@@ -88,18 +99,16 @@ impl Index {
         ensures slots { length self.new ≡ length self.old }
         ensures once { EachKeyIsOnce self.new }
     {
-        if let Some((slot, generation)) = self.find(key) {
-            return Ok(IndexEnd::Old { slot, generation });
-        }
-        let Some((slot, generation)) = lowest_free(self.places.as_slice()) else {
-            return Ok(IndexEnd::Full);
+        let end = end_of_claim(self.places.as_slice(), key);
+        let IndexEnd::New { slot, generation } = end else {
+            return Ok(end);
         };
         let key = Key::copy_of(*self.places.allocator(), key)?;
         self.places[slot as usize] = Place {
             generation,
             key: Some(key),
         };
-        Ok(IndexEnd::New { slot, generation })
+        Ok(end)
     }
 
     /// The slot that holds the key, and its generation.
@@ -112,7 +121,8 @@ impl Index {
         holder(self.places.as_slice(), key)
     }
 
-    /// Takes the key from the slot, and raises its generation by one.
+    /// Takes the key from the slot, and raises its generation by one. The greatest u64 is the last generation: a slot of it
+    /// stays of it. It takes 2^64 - 1 calls for one slot to come there.
     pub fn free(&mut self, slot: u32)
         requires { slot < length self.old }
         ensures after { self.new ≡ after_free self.old slot }

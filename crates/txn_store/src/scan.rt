@@ -1,9 +1,9 @@
 //! What the slots hold, looked at one after the other.
 ghost use Rattle.std.specs.Prelude.{◌≡◌, ◌^◌, ◌<◌, ◌↔◌, IsTrue, IfSome, IfNone, length};
 ghost use Rattle.server_key.specs.Keys.{shown_key};
-ghost use Rattle.txn_store.specs.Places.{Holds, IsHeldNowhere, IsLowestFree, NoneIsFree};
+ghost use Rattle.txn_store.specs.Places.{Holds, IsHeldNowhere, ClaimAnswers};
 
-use crate::index::Place;
+use crate::index::{IndexEnd, Place};
 use server_key::KeyView;
 
 /// The slot that holds the key, and its generation.
@@ -20,16 +20,25 @@ pub(crate) fn holder(places: &[Place], key: KeyView) -> Option<(u32, u64)>
     None
 }
 
-/// The lowest slot that holds no key, and its generation.
-pub(crate) fn lowest_free(places: &[Place]) -> Option<(u32, u64)>
+/// What a claim of the key comes to. The places are walked once.
+pub(crate) fn end_of_claim(places: &[Place], key: KeyView) -> IndexEnd
     requires { length places.now < 2 ^ 32 }
-    ensures lowest { IfSome result (λ at. IsLowestFree places.now at.0 at.1) }
-    ensures none { IfNone result (NoneIsFree places.now) }
+    ensures { ClaimAnswers places.now (shown_key key.entry) result }
 {
-    for (slot, candidate) in places.iter().enumerate() {
-        if candidate.key.is_none() {
-            return Some((slot as u32, candidate.generation));
+    let mut lowest_free = None;
+    for (slot, place) in places.iter().enumerate() {
+        if place.holds(key) {
+            return IndexEnd::Old {
+                slot: slot as u32,
+                generation: place.generation,
+            };
+        }
+        if lowest_free.is_none() && place.key.is_none() {
+            lowest_free = Some((slot as u32, place.generation));
         }
     }
-    None
+    match lowest_free {
+        Some((slot, generation)) => IndexEnd::New { slot, generation },
+        None => IndexEnd::Full,
+    }
 }

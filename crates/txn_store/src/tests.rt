@@ -124,3 +124,15 @@ fn index_of_no_slots_is_full(rt: HostRuntime) -> Result<(), Fail> {
     assert_eq!(rt; index.claim(FIRST)?, Full);
     Ok(())
 }
+
+#[test]
+fn the_greatest_generation_has_no_next_one(rt: HostRuntime) -> Result<(), Fail> {
+    let mut index = Index::of_generation(rt.alloc(), 1, u64::MAX - 1)?;
+    assert_eq!(rt; index.claim(FIRST)?, new(0, u64::MAX - 1));
+    index.free(0);
+    assert_eq!(rt; index.claim(FIRST)?, new(0, u64::MAX));
+    index.free(0);
+    assert_eq!(rt; index.find(FIRST), None);
+    assert_eq!(rt; index.claim(FIRST)?, new(0, u64::MAX));
+    Ok(())
+}
