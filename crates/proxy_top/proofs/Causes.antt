@@ -1,7 +1,6 @@
 -- Where the folder is told, the words `sim` and the files leave one ending, besides that of a fault.
 use Rattle.std.proofs.Common.{◌≡◌, ℕ, ◌<◌, inl, inr, List, Option, Some, length, refl, sym, ap, ◌∙◌, subst, arith}
 use Rattle.std.specs.Prelude.{IfSome, IsSomeAnd}
-use Rattle.outside_ports.specs.Counts.{Rises}
 use Rattle.outside_ports.specs.Files.{Folder, Holds, IsLonger}
 use Rattle.pv_values.specs.declared.refusal.Place.{Place}
 use Rattle.proxy_top.specs.declared.script.AnswerAll.{AnswerAll}

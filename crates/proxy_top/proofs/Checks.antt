@@ -1,7 +1,6 @@
 -- Where the folder is told, the words `check` and the file leave one status, besides that of a fault.
 use Rattle.std.proofs.Common.{◌≡◌, ℕ, ◌≤◌, inl, inr, List, Option, Some, length, sym, ap, ◌∙◌, subst, arith}
 use Rattle.std.specs.Prelude.{IfSome}
-use Rattle.outside_ports.specs.Counts.{Rises}
 use Rattle.outside_ports.specs.Files.{Folder, Holds}
 use Rattle.outside_ports.specs.Told.{Grows}
 use Rattle.pv_values.specs.declared.refusal.Place.{Place}

@@ -92,7 +92,7 @@ fn no_memory_for_the_words(rt: HostRuntime) {
     let mut console = MemConsole::new(Vec::new(rt.alloc()));
     let code = run(rt.alloc(), Err(NoMemory), &mut Disk::new(&rt), &mut console);
     assert!(rt; code == ExitCode::from(8));
-    assert!(rt; console.printed() == b"out of memory\n");
+    assert!(rt; console.printed() == b"out of memory\n".as_slice());
 }
 
 /// The file is longer than two of the blocks in which it is read, and no two of its blocks are alike.
@@ -116,6 +116,7 @@ fn a_file_is_read_whole_up_to_its_limit(rt: HostRuntime) -> Result<(), Fail> {
 }
 
 /// A runtime that keeps what is written, where it doesn't fail.
+#[derive(Drop)]
 struct Paper {
     written: RefCell<Vec<u8>>,
     fails: bool,
@@ -153,6 +154,7 @@ fn a_text_is_printed_whole(rt: HostRuntime) {
         };
         let answer = Terminal::new(&paper).print(b"two\nlines\n");
         assert!(rt; answer == end);
-        assert!(rt; paper.written.into_inner().as_slice() == text.as_bytes());
+        let Paper { written, .. } = paper;
+        assert!(rt; written.into_inner().as_slice() == text.as_bytes());
     }
 }
