@@ -1,7 +1,6 @@
 -- Where the folder is told, the words `sim` and the files leave one ending, besides that of a fault.
-use Rattle.std.proofs.Common.{◌≡◌, ℕ, ◌<◌, inl, inr, List, Option, Some, length, sym, ap, ◌∙◌, subst, arith}
+use Rattle.std.proofs.Common.{◌≡◌, ℕ, ◌<◌, inl, inr, List, Option, Some, length, refl, sym, ap, ◌∙◌, subst, arith}
 use Rattle.std.specs.Prelude.{IfSome, IsSomeAnd}
-use Rattle.outside_ports.specs.Counts.{Rises}
 use Rattle.outside_ports.specs.Files.{Folder, Holds, IsLonger}
 use Rattle.pv_values.specs.declared.refusal.Place.{Place}
 use Rattle.proxy_top.specs.declared.script.AnswerAll.{AnswerAll}
@@ -10,7 +9,7 @@ use Rattle.proxy_top.specs.declared.top.Ending.TheVariants as outcome
 use Rattle.proxy_top.specs.Commands.{check_words, sim_words}
 use Rattle.proxy_top.specs.Script.{IsScript}
 use Rattle.proxy_top.specs.Scenario.{IsScenario, IsFirstWrong}
-use Rattle.proxy_top.specs.Endings.{ReadsScript, IsEnding, IsRun, IsRefused, IsRefusedBySim, IsWrongLine, IsEnd, Gives, status_of, Tells, IsReady, IsInNoForm, IsInWrongLine}
+use Rattle.proxy_top.specs.Endings.{ReadsScript, IsEnding, IsRun, IsRefused, IsRefusedBySim, IsWrongLine, IsEnd, IsCalm, Gives, status_of, Tells, IsReady, IsInNoForm, IsInWrongLine, place}
 use Rattle.proxy_top.proofs.Once.{scenario_not_wrong}
 
 -- no words are both commands
@@ -36,6 +35,12 @@ not_longer folder name name' limit text t same h =
     subst (λ f. IfSome f (λ files. IsSomeAnd (files name') (λ bytes. limit < length bytes))) t.told h in
     let long : limit < length text = subst (λ o. IsSomeAnd o (λ bytes. limit < length bytes)) (ap t.files same ∙ t.held) there in
     absurd (omega (arith, long, t.short))
+
+-- a text in no form is refused with kind 3 at 0..0
+pub no_script : (folder : Option Folder) (script scenario text : List ℕ) → Holds folder script text → ((answer : AnswerAll) → IsScript text answer → ⊥)
+    → IsRefused (sim_words script scenario) folder 3 (place 0 0)
+no_script folder script scenario text held none =
+    inr (record { script = script; scenario = scenario; words_are = refl; kind_is = refl; at_is = refl; refused = inl (text, held, none) })
 
 -- a script that reads isn't refused
 not_refused_by_sim : (words : List (List ℕ)) (folder : Option Folder) (script scenario text : List ℕ) (answer : AnswerAll) (kind : ℕ) (at : Place)
@@ -77,7 +82,7 @@ not_done words folder line r printed d =
     scenario_not_wrong r.lines d.arrivals d.end line
     (subst (λ x. IsScenario x d.arrivals d.end) (held_once folder r.scenario d.scenario 4194304 r.lines d.text r.told same.1 d.held) d.reads) r.wrong
 
-ready_in : (words : List (List ℕ)) (folder : Option Folder) (f g status : ℕ) (ending : Ending) → IsReady words folder → (Rises f g → ⊥)
+ready_in : (words : List (List ℕ)) (folder : Option Folder) (f g : List ℕ → ℕ) (status : ℕ) (ending : Ending) → IsReady words folder → IsCalm f g
     → status ≡ status_of ending → IsEnding words folder f g ending → status ≡ 0
 ready_in words folder f g status outcome.Accepted r still is ends = is
 ready_in words folder f g status (outcome.Ran trace) r still is ends = is
@@ -85,9 +90,9 @@ ready_in words folder f g status outcome.Usage r still is ends = absurd (ends.no
 ready_in words folder f g status (outcome.Refused kind at) r still is ends =
     absurd (not_refused words folder r.script r.scenario r.text r.answer kind at r.words_are r.held r.accepted ends)
 ready_in words folder f g status (outcome.WrongLine other) r still is ends = absurd (not_wrong words folder r other ends)
-ready_in words folder f g status (outcome.Unread name) r still is ends = absurd (still ends.rose)
+ready_in words folder f g status (outcome.Unread name) r still is ends = absurd (still name.now ends.rose)
 
-no_form_in : (words : List (List ℕ)) (folder : Option Folder) (f g status : ℕ) (ending : Ending) → IsInNoForm words folder → (Rises f g → ⊥)
+no_form_in : (words : List (List ℕ)) (folder : Option Folder) (f g : List ℕ → ℕ) (status : ℕ) (ending : Ending) → IsInNoForm words folder → IsCalm f g
     → status ≡ status_of ending → IsEnding words folder f g ending → status ≡ 2
 no_form_in words folder f g status outcome.Accepted r still is ends = absurd (two_commands words ends.file r.script r.scenario ends.words_are r.words_are)
 no_form_in words folder f g status (outcome.Ran trace) r still is ends =
@@ -98,9 +103,9 @@ no_form_in words folder f g status (outcome.Refused kind at) r still is ends = i
 no_form_in words folder f g status (outcome.WrongLine other) r still is ends =
     let same = same_words r.script r.scenario ends.script ends.scenario (sym r.words_are ∙ ends.words_are) in
     absurd (not_read folder r.script ends.script r.text ends.answer r.held same.0 r.refused ends.accepted)
-no_form_in words folder f g status (outcome.Unread name) r still is ends = absurd (still ends.rose)
+no_form_in words folder f g status (outcome.Unread name) r still is ends = absurd (still name.now ends.rose)
 
-wrong_in : (words : List (List ℕ)) (folder : Option Folder) (f g status line : ℕ) (ending : Ending) → IsInWrongLine words folder line → (Rises f g → ⊥)
+wrong_in : (words : List (List ℕ)) (folder : Option Folder) (f g : List ℕ → ℕ) (status line : ℕ) (ending : Ending) → IsInWrongLine words folder line → IsCalm f g
     → status ≡ status_of ending → IsEnding words folder f g ending → status ≡ 3
 wrong_in words folder f g status line outcome.Accepted r still is ends = absurd (two_commands words ends.file r.script r.scenario ends.words_are r.words_are)
 wrong_in words folder f g status line (outcome.Ran trace) r still is ends = absurd (not_done words folder line r trace.items ends)
@@ -108,23 +113,23 @@ wrong_in words folder f g status line outcome.Usage r still is ends = absurd (en
 wrong_in words folder f g status line (outcome.Refused kind at) r still is ends =
     absurd (not_refused words folder r.script r.scenario r.text r.answer kind at r.words_are r.held r.accepted ends)
 wrong_in words folder f g status line (outcome.WrongLine other) r still is ends = is
-wrong_in words folder f g status line (outcome.Unread name) r still is ends = absurd (still ends.rose)
+wrong_in words folder f g status line (outcome.Unread name) r still is ends = absurd (still name.now ends.rose)
 
-pub ready : (words : List (List ℕ)) (folder : Option Folder) (f g : ℕ) (old new : Option (List ℕ)) (c d status : ℕ)
-    → IsEnd words folder f g old new c d status → IsReady words folder → Gives 0 f g c d status
-ready words folder f g old new c d status (inl h) r still calm = inl (ready_in words folder f g status h.ending r still h.status_is h.ends)
-ready words folder f g old new c d status (inr (inl h)) r still calm = absurd (calm h.rose)
-ready words folder f g old new c d status (inr (inr h)) r still calm = inr h.is
+pub ready : (words : List (List ℕ)) (folder : Option Folder) (f g : List ℕ → ℕ) (old new : Option (List ℕ)) (c d s t status : ℕ)
+    → IsEnd words folder f g old new c d s t status → IsReady words folder → Gives 0 f g c d status
+ready words folder f g old new c d s t status (inl h) r still calm = inl (ready_in words folder f g status h.ending r still h.status_is h.ends)
+ready words folder f g old new c d s t status (inr (inl h)) r still calm = absurd (calm h.rose)
+ready words folder f g old new c d s t status (inr (inr h)) r still calm = inr h.is
 
-pub no_form : (words : List (List ℕ)) (folder : Option Folder) (f g : ℕ) (old new : Option (List ℕ)) (c d status : ℕ)
-    → IsEnd words folder f g old new c d status → IsInNoForm words folder → Gives 2 f g c d status
-no_form words folder f g old new c d status (inl h) r still calm = inl (no_form_in words folder f g status h.ending r still h.status_is h.ends)
-no_form words folder f g old new c d status (inr (inl h)) r still calm = absurd (calm h.rose)
-no_form words folder f g old new c d status (inr (inr h)) r still calm = inr h.is
+pub no_form : (words : List (List ℕ)) (folder : Option Folder) (f g : List ℕ → ℕ) (old new : Option (List ℕ)) (c d s t status : ℕ)
+    → IsEnd words folder f g old new c d s t status → IsInNoForm words folder → Gives 2 f g c d status
+no_form words folder f g old new c d s t status (inl h) r still calm = inl (no_form_in words folder f g status h.ending r still h.status_is h.ends)
+no_form words folder f g old new c d s t status (inr (inl h)) r still calm = absurd (calm h.rose)
+no_form words folder f g old new c d s t status (inr (inr h)) r still calm = inr h.is
 
-pub wrong_line_only : (words : List (List ℕ)) (folder : Option Folder) (f g : ℕ) (old new : Option (List ℕ)) (c d status : ℕ)
-    → IsEnd words folder f g old new c d status → (line : ℕ) → IsInWrongLine words folder line → Gives 3 f g c d status
-wrong_line_only words folder f g old new c d status (inl h) line r still calm =
+pub wrong_line_only : (words : List (List ℕ)) (folder : Option Folder) (f g : List ℕ → ℕ) (old new : Option (List ℕ)) (c d s t status : ℕ)
+    → IsEnd words folder f g old new c d s t status → (line : ℕ) → IsInWrongLine words folder line → Gives 3 f g c d status
+wrong_line_only words folder f g old new c d s t status (inl h) line r still calm =
     inl (wrong_in words folder f g status line h.ending r still h.status_is h.ends)
-wrong_line_only words folder f g old new c d status (inr (inl h)) line r still calm = absurd (calm h.rose)
-wrong_line_only words folder f g old new c d status (inr (inr h)) line r still calm = inr h.is
+wrong_line_only words folder f g old new c d s t status (inr (inl h)) line r still calm = absurd (calm h.rose)
+wrong_line_only words folder f g old new c d s t status (inr (inr h)) line r still calm = inr h.is

@@ -1,7 +1,6 @@
 -- Where the folder is told, the words `check` and the file leave one status, besides that of a fault.
 use Rattle.std.proofs.Common.{◌≡◌, ℕ, ◌≤◌, inl, inr, List, Option, Some, length, sym, ap, ◌∙◌, subst, arith}
 use Rattle.std.specs.Prelude.{IfSome}
-use Rattle.outside_ports.specs.Counts.{Rises}
 use Rattle.outside_ports.specs.Files.{Folder, Holds}
 use Rattle.outside_ports.specs.Told.{Grows}
 use Rattle.pv_values.specs.declared.refusal.Place.{Place}
@@ -10,7 +9,7 @@ use Rattle.proxy_top.specs.declared.top.Ending.{Ending}
 use Rattle.proxy_top.specs.declared.top.Ending.TheVariants as outcome
 use Rattle.proxy_top.specs.Accept.{AcceptsText, RefusesText}
 use Rattle.proxy_top.specs.Commands.{check_words}
-use Rattle.proxy_top.specs.Endings.{IsEnding, IsAccepted, IsRefused, IsEnd, Gives, status_of, IsToAccept, IsToRefuse, IsTooLong, PrintsRefusal, place, refused_line}
+use Rattle.proxy_top.specs.Endings.{IsEnding, IsAccepted, IsRefused, IsEnd, IsCalm, Gives, status_of, IsToAccept, IsToRefuse, IsTooLong, PrintsRefusal, place, refused_line}
 use Rattle.proxy_top.proofs.Causes.{two_commands, held_once, not_longer}
 use Rattle.proxy_top.proofs.Statuses.{refused}
 use Rattle.proxy_top.proofs.Texts.{Agree, accepted_is_short}
@@ -55,53 +54,53 @@ long_not_accepted words folder r h =
     let short : length r.text ≤ 1048576 = subst (λ (x : List ℕ). length x ≤ 1048576) text (accepted_is_short h.text h.script h.accepted) in
     absurd (omega (arith, short, r.long))
 
-accept_in : NeverBoth → (words : List (List ℕ)) (folder : Option Folder) (f g status : ℕ) (ending : Ending) → IsToAccept words folder → (Rises f g → ⊥)
+accept_in : NeverBoth → (words : List (List ℕ)) (folder : Option Folder) (f g : List ℕ → ℕ) (status : ℕ) (ending : Ending) → IsToAccept words folder → IsCalm f g
     → status ≡ status_of ending → IsEnding words folder f g ending → status ≡ 0
 accept_in never words folder f g status outcome.Accepted r still is ends = is
 accept_in never words folder f g status (outcome.Ran trace) r still is ends = is
 accept_in never words folder f g status outcome.Usage r still is ends = absurd (ends.no_check r.file r.words_are)
 accept_in never words folder f g status (outcome.Refused kind at) r still is ends = absurd (not_refused never words folder r kind at ends)
 accept_in never words folder f g status (outcome.WrongLine other) r still is ends = absurd (two_commands words r.file ends.script ends.scenario r.words_are ends.words_are)
-accept_in never words folder f g status (outcome.Unread name) r still is ends = absurd (still ends.rose)
+accept_in never words folder f g status (outcome.Unread name) r still is ends = absurd (still name.now ends.rose)
 
-refuse_in : NeverBoth → (words : List (List ℕ)) (folder : Option Folder) (f g status kind : ℕ) (at : Place) (ending : Ending) → IsToRefuse words folder kind at → (Rises f g → ⊥)
+refuse_in : NeverBoth → (words : List (List ℕ)) (folder : Option Folder) (f g : List ℕ → ℕ) (status kind : ℕ) (at : Place) (ending : Ending) → IsToRefuse words folder kind at → IsCalm f g
     → status ≡ status_of ending → IsEnding words folder f g ending → status ≡ 2
 refuse_in never words folder f g status kind at outcome.Accepted r still is ends = absurd (not_accepted never words folder kind at r ends)
 refuse_in never words folder f g status kind at (outcome.Ran trace) r still is ends = absurd (two_commands words r.file ends.script ends.scenario r.words_are ends.words_are)
 refuse_in never words folder f g status kind at outcome.Usage r still is ends = absurd (ends.no_check r.file r.words_are)
 refuse_in never words folder f g status kind at (outcome.Refused k p) r still is ends = is
 refuse_in never words folder f g status kind at (outcome.WrongLine other) r still is ends = absurd (two_commands words r.file ends.script ends.scenario r.words_are ends.words_are)
-refuse_in never words folder f g status kind at (outcome.Unread name) r still is ends = absurd (still ends.rose)
+refuse_in never words folder f g status kind at (outcome.Unread name) r still is ends = absurd (still name.now ends.rose)
 
-long_in : (words : List (List ℕ)) (folder : Option Folder) (f g status : ℕ) (ending : Ending) → IsTooLong words folder → (Rises f g → ⊥)
+long_in : (words : List (List ℕ)) (folder : Option Folder) (f g : List ℕ → ℕ) (status : ℕ) (ending : Ending) → IsTooLong words folder → IsCalm f g
     → status ≡ status_of ending → IsEnding words folder f g ending → status ≡ 2
 long_in words folder f g status outcome.Accepted r still is ends = absurd (long_not_accepted words folder r ends)
 long_in words folder f g status (outcome.Ran trace) r still is ends = absurd (two_commands words r.file ends.script ends.scenario r.words_are ends.words_are)
 long_in words folder f g status outcome.Usage r still is ends = absurd (ends.no_check r.file r.words_are)
 long_in words folder f g status (outcome.Refused k p) r still is ends = is
 long_in words folder f g status (outcome.WrongLine other) r still is ends = absurd (two_commands words r.file ends.script ends.scenario r.words_are ends.words_are)
-long_in words folder f g status (outcome.Unread name) r still is ends = absurd (still ends.rose)
+long_in words folder f g status (outcome.Unread name) r still is ends = absurd (still name.now ends.rose)
 
-pub accepts : NeverBoth → (words : List (List ℕ)) (folder : Option Folder) (f g : ℕ) (old new : Option (List ℕ)) (c d status : ℕ)
-    → IsEnd words folder f g old new c d status → IsToAccept words folder → Gives 0 f g c d status
-accepts never words folder f g old new c d status (inl h) r still calm =
+pub accepts : NeverBoth → (words : List (List ℕ)) (folder : Option Folder) (f g : List ℕ → ℕ) (old new : Option (List ℕ)) (c d s t status : ℕ)
+    → IsEnd words folder f g old new c d s t status → IsToAccept words folder → Gives 0 f g c d status
+accepts never words folder f g old new c d s t status (inl h) r still calm =
     inl (accept_in never words folder f g status h.ending r still h.status_is h.ends)
-accepts never words folder f g old new c d status (inr (inl h)) r still calm = absurd (calm h.rose)
-accepts never words folder f g old new c d status (inr (inr h)) r still calm = inr h.is
+accepts never words folder f g old new c d s t status (inr (inl h)) r still calm = absurd (calm h.rose)
+accepts never words folder f g old new c d s t status (inr (inr h)) r still calm = inr h.is
 
-pub refuses : NeverBoth → (words : List (List ℕ)) (folder : Option Folder) (f g : ℕ) (old new : Option (List ℕ)) (c d status : ℕ)
-    → IsEnd words folder f g old new c d status → (kind : ℕ) (at : Place) → IsToRefuse words folder kind at → Gives 2 f g c d status
-refuses never words folder f g old new c d status (inl h) kind at r still calm =
+pub refuses : NeverBoth → (words : List (List ℕ)) (folder : Option Folder) (f g : List ℕ → ℕ) (old new : Option (List ℕ)) (c d s t status : ℕ)
+    → IsEnd words folder f g old new c d s t status → (kind : ℕ) (at : Place) → IsToRefuse words folder kind at → Gives 2 f g c d status
+refuses never words folder f g old new c d s t status (inl h) kind at r still calm =
     inl (refuse_in never words folder f g status kind at h.ending r still h.status_is h.ends)
-refuses never words folder f g old new c d status (inr (inl h)) kind at r still calm = absurd (calm h.rose)
-refuses never words folder f g old new c d status (inr (inr h)) kind at r still calm = inr h.is
+refuses never words folder f g old new c d s t status (inr (inl h)) kind at r still calm = absurd (calm h.rose)
+refuses never words folder f g old new c d s t status (inr (inr h)) kind at r still calm = inr h.is
 
-pub too_long : (words : List (List ℕ)) (folder : Option Folder) (f g : ℕ) (old new : Option (List ℕ)) (c d status : ℕ)
-    → IsEnd words folder f g old new c d status → IsTooLong words folder → Gives 2 f g c d status
-too_long words folder f g old new c d status (inl h) r still calm =
+pub too_long : (words : List (List ℕ)) (folder : Option Folder) (f g : List ℕ → ℕ) (old new : Option (List ℕ)) (c d s t status : ℕ)
+    → IsEnd words folder f g old new c d s t status → IsTooLong words folder → Gives 2 f g c d status
+too_long words folder f g old new c d s t status (inl h) r still calm =
     inl (long_in words folder f g status h.ending r still h.status_is h.ends)
-too_long words folder f g old new c d status (inr (inl h)) r still calm = absurd (calm h.rose)
-too_long words folder f g old new c d status (inr (inr h)) r still calm = inr h.is
+too_long words folder f g old new c d s t status (inr (inl h)) r still calm = absurd (calm h.rose)
+too_long words folder f g old new c d s t status (inr (inr h)) r still calm = inr h.is
 
 -- ---- the line of a refusal
 
@@ -123,10 +122,10 @@ line_in one words folder old new kind at k p r (inl h) grows =
 line_in one words folder old new kind at k p r (inr h) grows =
     absurd (two_commands words r.file h.script h.scenario r.words_are h.words_are)
 
-pub line : OneWay → (words : List (List ℕ)) (folder : Option Folder) (f g : ℕ) (old new : Option (List ℕ)) (c d status : ℕ)
-    → IsEnd words folder f g old new c d status → (kind : ℕ) (at : Place) → IsToRefuse words folder kind at → status ≡ 2 → PrintsRefusal kind at old new
-line one words folder f g old new c d status h kind at r e =
-    let found = refused words folder f g old new c d status h e in
+pub line : OneWay → (words : List (List ℕ)) (folder : Option Folder) (f g : List ℕ → ℕ) (old new : Option (List ℕ)) (c d s t status : ℕ)
+    → IsEnd words folder f g old new c d s t status → (kind : ℕ) (at : Place) → IsToRefuse words folder kind at → status ≡ 2 → PrintsRefusal kind at old new
+line one words folder f g old new c d s t status h kind at r e =
+    let found = refused words folder f g old new c d s t status h e in
     line_in one words folder old new kind at found.0 found.1 r found.2 found.3
 
 long_line_in : (words : List (List ℕ)) (folder : Option Folder) (old new : Option (List ℕ)) (k : ℕ) (p : Place)
@@ -142,8 +141,8 @@ long_line_in words folder old new k p r (inl h) grows =
     ]
 long_line_in words folder old new k p r (inr h) grows = absurd (two_commands words r.file h.script h.scenario r.words_are h.words_are)
 
-pub too_long_line : (words : List (List ℕ)) (folder : Option Folder) (f g : ℕ) (old new : Option (List ℕ)) (c d status : ℕ)
-    → IsEnd words folder f g old new c d status → IsTooLong words folder → status ≡ 2 → Grows old new (refused_line 13 (place 1048576 1048577))
-too_long_line words folder f g old new c d status h r e =
-    let found = refused words folder f g old new c d status h e in
+pub too_long_line : (words : List (List ℕ)) (folder : Option Folder) (f g : List ℕ → ℕ) (old new : Option (List ℕ)) (c d s t status : ℕ)
+    → IsEnd words folder f g old new c d s t status → IsTooLong words folder → status ≡ 2 → Grows old new (refused_line 13 (place 1048576 1048577))
+too_long_line words folder f g old new c d s t status h r e =
+    let found = refused words folder f g old new c d s t status h e in
     long_line_in words folder old new found.0 found.1 r found.2 found.3

@@ -1,6 +1,5 @@
 -- What each status of a command says, from how the command ended.
 use Rattle.std.proofs.Common.{◌≡◌, ℕ, ◌<◌, ◌⊎◌, inl, inr, [], List, Option, refl, arith}
-use Rattle.std.specs.String.{string_bytes}
 use Rattle.outside_ports.specs.Counts.{Rises}
 use Rattle.outside_ports.specs.Told.{Grows}
 use Rattle.outside_ports.specs.Files.{Folder}
@@ -8,15 +7,15 @@ use Rattle.pv_values.specs.declared.refusal.Place.{Place}
 use Rattle.proxy_top.specs.declared.top.Ending.{Ending}
 use Rattle.proxy_top.specs.declared.top.Ending.TheVariants as outcome
 use Rattle.proxy_top.specs.Commands.{IsNoCommand}
-use Rattle.proxy_top.specs.Endings.{IsEnding, IsDone, IsRefused, IsWrongLine, NamesFile, IsUnread, IsReported, IsEnd, IsStatus, Gives, status_of, text_of, accepted_line, usage_line, refused_line, wrong_line, unread_line, memory_line}
+use Rattle.proxy_top.specs.Endings.{IsEnding, IsDone, IsRefused, IsWrongLine, IsToRead, IsUnread, IsReported, IsEnd, IsStatus, Gives, status_of, text_of, accepted_line, usage_line, refused_line, wrong_line, unread_line, PrintsMemory}
 
 -- below 5 the status is that of an ending
-reported : (words : List (List ℕ)) (folder : Option Folder) (f g : ℕ) (old new : Option (List ℕ)) (c d status : ℕ) → IsEnd words folder f g old new c d status → status < 5 → IsReported words folder f g old new status
-reported words folder f g old new c d status (inl r) low = r
-reported words folder f g old new c d status (inr (inl h)) low = absurd (omega (arith, h.is, low))
-reported words folder f g old new c d status (inr (inr h)) low = absurd (omega (arith, h.is, low))
+reported : (words : List (List ℕ)) (folder : Option Folder) (f g : List ℕ → ℕ) (old new : Option (List ℕ)) (c d s t status : ℕ) → IsEnd words folder f g old new c d s t status → status < 5 → IsReported words folder f g old new status
+reported words folder f g old new c d s t status (inl r) low = r
+reported words folder f g old new c d s t status (inr (inl h)) low = absurd (omega (arith, h.is, low))
+reported words folder f g old new c d s t status (inr (inr h)) low = absurd (omega (arith, h.is, low))
 
-done_in : (words : List (List ℕ)) (folder : Option Folder) (f g : ℕ) (old new : Option (List ℕ)) (status : ℕ) (ending : Ending)
+done_in : (words : List (List ℕ)) (folder : Option Folder) (f g : List ℕ → ℕ) (old new : Option (List ℕ)) (status : ℕ) (ending : Ending)
     → status ≡ status_of ending → IsEnding words folder f g ending → Grows old new (text_of ending) → status ≡ 0 → (text : List ℕ) × IsDone words folder text × Grows old new text
 done_in words folder f g old new status outcome.Accepted is ends text e = (accepted_line, inl (ends, refl), text)
 done_in words folder f g old new status (outcome.Ran trace) is ends text e = (trace.items, inr ends, text)
@@ -25,12 +24,12 @@ done_in words folder f g old new status (outcome.Refused kind at) is ends text e
 done_in words folder f g old new status (outcome.WrongLine line) is ends text e = absurd (omega (arith, is, e))
 done_in words folder f g old new status (outcome.Unread name) is ends text e = absurd (omega (arith, is, e))
 
-pub done : (words : List (List ℕ)) (folder : Option Folder) (f g : ℕ) (old new : Option (List ℕ)) (c d status : ℕ) → IsEnd words folder f g old new c d status → status ≡ 0
+pub done : (words : List (List ℕ)) (folder : Option Folder) (f g : List ℕ → ℕ) (old new : Option (List ℕ)) (c d s t status : ℕ) → IsEnd words folder f g old new c d s t status → status ≡ 0
     → (text : List ℕ) × IsDone words folder text × Grows old new text
-done words folder f g old new c d status h e =
-    let r = reported words folder f g old new c d status h (omega (arith, e)) in done_in words folder f g old new status r.ending r.status_is r.ends r.text e
+done words folder f g old new c d s t status h e =
+    let r = reported words folder f g old new c d s t status h (omega (arith, e)) in done_in words folder f g old new status r.ending r.status_is r.ends r.text e
 
-usage_in : (words : List (List ℕ)) (folder : Option Folder) (f g : ℕ) (old new : Option (List ℕ)) (status : ℕ) (ending : Ending)
+usage_in : (words : List (List ℕ)) (folder : Option Folder) (f g : List ℕ → ℕ) (old new : Option (List ℕ)) (status : ℕ) (ending : Ending)
     → status ≡ status_of ending → IsEnding words folder f g ending → Grows old new (text_of ending) → status ≡ 1 → IsNoCommand words × Grows old new usage_line
 usage_in words folder f g old new status outcome.Accepted is ends text e = absurd (omega (arith, is, e))
 usage_in words folder f g old new status (outcome.Ran trace) is ends text e = absurd (omega (arith, is, e))
@@ -39,12 +38,12 @@ usage_in words folder f g old new status (outcome.Refused kind at) is ends text 
 usage_in words folder f g old new status (outcome.WrongLine line) is ends text e = absurd (omega (arith, is, e))
 usage_in words folder f g old new status (outcome.Unread name) is ends text e = absurd (omega (arith, is, e))
 
-pub usage : (words : List (List ℕ)) (folder : Option Folder) (f g : ℕ) (old new : Option (List ℕ)) (c d status : ℕ) → IsEnd words folder f g old new c d status → status ≡ 1
+pub usage : (words : List (List ℕ)) (folder : Option Folder) (f g : List ℕ → ℕ) (old new : Option (List ℕ)) (c d s t status : ℕ) → IsEnd words folder f g old new c d s t status → status ≡ 1
     → IsNoCommand words × Grows old new usage_line
-usage words folder f g old new c d status h e =
-    let r = reported words folder f g old new c d status h (omega (arith, e)) in usage_in words folder f g old new status r.ending r.status_is r.ends r.text e
+usage words folder f g old new c d s t status h e =
+    let r = reported words folder f g old new c d s t status h (omega (arith, e)) in usage_in words folder f g old new status r.ending r.status_is r.ends r.text e
 
-refused_in : (words : List (List ℕ)) (folder : Option Folder) (f g : ℕ) (old new : Option (List ℕ)) (status : ℕ) (ending : Ending)
+refused_in : (words : List (List ℕ)) (folder : Option Folder) (f g : List ℕ → ℕ) (old new : Option (List ℕ)) (status : ℕ) (ending : Ending)
     → status ≡ status_of ending → IsEnding words folder f g ending → Grows old new (text_of ending) → status ≡ 2 → (kind : ℕ) × (at : Place) × IsRefused words folder kind at × Grows old new (refused_line kind at)
 refused_in words folder f g old new status outcome.Accepted is ends text e = absurd (omega (arith, is, e))
 refused_in words folder f g old new status (outcome.Ran trace) is ends text e = absurd (omega (arith, is, e))
@@ -53,12 +52,12 @@ refused_in words folder f g old new status (outcome.Refused kind at) is ends tex
 refused_in words folder f g old new status (outcome.WrongLine line) is ends text e = absurd (omega (arith, is, e))
 refused_in words folder f g old new status (outcome.Unread name) is ends text e = absurd (omega (arith, is, e))
 
-pub refused : (words : List (List ℕ)) (folder : Option Folder) (f g : ℕ) (old new : Option (List ℕ)) (c d status : ℕ) → IsEnd words folder f g old new c d status → status ≡ 2
+pub refused : (words : List (List ℕ)) (folder : Option Folder) (f g : List ℕ → ℕ) (old new : Option (List ℕ)) (c d s t status : ℕ) → IsEnd words folder f g old new c d s t status → status ≡ 2
     → (kind : ℕ) × (at : Place) × IsRefused words folder kind at × Grows old new (refused_line kind at)
-refused words folder f g old new c d status h e =
-    let r = reported words folder f g old new c d status h (omega (arith, e)) in refused_in words folder f g old new status r.ending r.status_is r.ends r.text e
+refused words folder f g old new c d s t status h e =
+    let r = reported words folder f g old new c d s t status h (omega (arith, e)) in refused_in words folder f g old new status r.ending r.status_is r.ends r.text e
 
-wrong_line_in : (words : List (List ℕ)) (folder : Option Folder) (f g : ℕ) (old new : Option (List ℕ)) (status : ℕ) (ending : Ending)
+wrong_line_in : (words : List (List ℕ)) (folder : Option Folder) (f g : List ℕ → ℕ) (old new : Option (List ℕ)) (status : ℕ) (ending : Ending)
     → status ≡ status_of ending → IsEnding words folder f g ending → Grows old new (text_of ending) → status ≡ 3 → (line : ℕ) × IsWrongLine words folder line × Grows old new (wrong_line line)
 wrong_line_in words folder f g old new status outcome.Accepted is ends text e = absurd (omega (arith, is, e))
 wrong_line_in words folder f g old new status (outcome.Ran trace) is ends text e = absurd (omega (arith, is, e))
@@ -67,24 +66,24 @@ wrong_line_in words folder f g old new status (outcome.Refused kind at) is ends 
 wrong_line_in words folder f g old new status (outcome.WrongLine line) is ends text e = (line, ends, text)
 wrong_line_in words folder f g old new status (outcome.Unread name) is ends text e = absurd (omega (arith, is, e))
 
-pub in_wrong_line : (words : List (List ℕ)) (folder : Option Folder) (f g : ℕ) (old new : Option (List ℕ)) (c d status : ℕ) → IsEnd words folder f g old new c d status → status ≡ 3
+pub in_wrong_line : (words : List (List ℕ)) (folder : Option Folder) (f g : List ℕ → ℕ) (old new : Option (List ℕ)) (c d s t status : ℕ) → IsEnd words folder f g old new c d s t status → status ≡ 3
     → (line : ℕ) × IsWrongLine words folder line × Grows old new (wrong_line line)
-in_wrong_line words folder f g old new c d status h e =
-    let r = reported words folder f g old new c d status h (omega (arith, e)) in wrong_line_in words folder f g old new status r.ending r.status_is r.ends r.text e
+in_wrong_line words folder f g old new c d s t status h e =
+    let r = reported words folder f g old new c d s t status h (omega (arith, e)) in wrong_line_in words folder f g old new status r.ending r.status_is r.ends r.text e
 
-unread_in : (words : List (List ℕ)) (folder : Option Folder) (f g : ℕ) (old new : Option (List ℕ)) (status : ℕ) (ending : Ending)
-    → status ≡ status_of ending → IsEnding words folder f g ending → Grows old new (text_of ending) → status ≡ 4 → (name : List ℕ) × IsUnread words f g name × Grows old new (unread_line name)
+unread_in : (words : List (List ℕ)) (folder : Option Folder) (f g : List ℕ → ℕ) (old new : Option (List ℕ)) (status : ℕ) (ending : Ending)
+    → status ≡ status_of ending → IsEnding words folder f g ending → Grows old new (text_of ending) → status ≡ 4 → (name : List ℕ) × IsUnread words folder f g name × Grows old new (unread_line name)
 unread_in words folder f g old new status outcome.Accepted is ends text e = absurd (omega (arith, is, e))
 unread_in words folder f g old new status (outcome.Ran trace) is ends text e = absurd (omega (arith, is, e))
 unread_in words folder f g old new status outcome.Usage is ends text e = absurd (omega (arith, is, e))
 unread_in words folder f g old new status (outcome.Refused kind at) is ends text e = absurd (omega (arith, is, e))
 unread_in words folder f g old new status (outcome.WrongLine line) is ends text e = absurd (omega (arith, is, e))
-unread_in words folder f g old new status (outcome.Unread name) is ends text e = (string_bytes name, ends, text)
+unread_in words folder f g old new status (outcome.Unread name) is ends text e = (name.now, ends, text)
 
-pub unread : (words : List (List ℕ)) (folder : Option Folder) (f g : ℕ) (old new : Option (List ℕ)) (c d status : ℕ) → IsEnd words folder f g old new c d status → status ≡ 4
-    → (name : List ℕ) × IsUnread words f g name × Grows old new (unread_line name)
-unread words folder f g old new c d status h e =
-    let r = reported words folder f g old new c d status h (omega (arith, e)) in unread_in words folder f g old new status r.ending r.status_is r.ends r.text e
+pub unread : (words : List (List ℕ)) (folder : Option Folder) (f g : List ℕ → ℕ) (old new : Option (List ℕ)) (c d s t status : ℕ) → IsEnd words folder f g old new c d s t status → status ≡ 4
+    → (name : List ℕ) × IsUnread words folder f g name × Grows old new (unread_line name)
+unread words folder f g old new c d s t status h e =
+    let r = reported words folder f g old new c d s t status h (omega (arith, e)) in unread_in words folder f g old new status r.ending r.status_is r.ends r.text e
 
 below_five : (ending : Ending) → status_of ending < 5
 below_five outcome.Accepted = omega arith
@@ -94,15 +93,15 @@ below_five (outcome.Refused kind at) = omega arith
 below_five (outcome.WrongLine line) = omega arith
 below_five (outcome.Unread name) = omega arith
 
-pub failed : (words : List (List ℕ)) (folder : Option Folder) (f g : ℕ) (old new : Option (List ℕ)) (c d status : ℕ) → IsEnd words folder f g old new c d status → status ≡ 5 → Rises c d × Grows old new []
-failed words folder f g old new c d status (inl r) e = absurd (omega (arith, below_five r.ending, r.status_is, e))
-failed words folder f g old new c d status (inr (inl h)) e = (h.rose, h.nothing)
-failed words folder f g old new c d status (inr (inr h)) e = absurd (omega (arith, h.is, e))
+pub failed : (words : List (List ℕ)) (folder : Option Folder) (f g : List ℕ → ℕ) (old new : Option (List ℕ)) (c d s t status : ℕ) → IsEnd words folder f g old new c d s t status → status ≡ 5 → Rises c d × Grows old new []
+failed words folder f g old new c d s t status (inl r) e = absurd (omega (arith, below_five r.ending, r.status_is, e))
+failed words folder f g old new c d s t status (inr (inl h)) e = (h.rose, h.nothing)
+failed words folder f g old new c d s t status (inr (inr h)) e = absurd (omega (arith, h.is, e))
 
-pub memory : (words : List (List ℕ)) (folder : Option Folder) (f g : ℕ) (old new : Option (List ℕ)) (c d status : ℕ) → IsEnd words folder f g old new c d status → status ≡ 8 → Grows old new memory_line ⊎ Grows old new []
-memory words folder f g old new c d status (inl r) e = absurd (omega (arith, below_five r.ending, r.status_is, e))
-memory words folder f g old new c d status (inr (inl h)) e = absurd (omega (arith, h.is, e))
-memory words folder f g old new c d status (inr (inr h)) e = h.line
+pub memory : (words : List (List ℕ)) (folder : Option Folder) (f g : List ℕ → ℕ) (old new : Option (List ℕ)) (c d s t status : ℕ) → IsEnd words folder f g old new c d s t status → status ≡ 8 → PrintsMemory old new s t
+memory words folder f g old new c d s t status (inl r) e = absurd (omega (arith, below_five r.ending, r.status_is, e))
+memory words folder f g old new c d s t status (inr (inl h)) e = absurd (omega (arith, h.is, e))
+memory words folder f g old new c d s t status (inr (inr h)) e = h.line
 
 known_ending : (ending : Ending) (status : ℕ) → status ≡ status_of ending → IsStatus status
 known_ending outcome.Accepted status h = inl h
@@ -112,31 +111,31 @@ known_ending (outcome.Refused kind at) status h = inr (inr (inl h))
 known_ending (outcome.WrongLine line) status h = inr (inr (inr (inl h)))
 known_ending (outcome.Unread name) status h = inr (inr (inr (inr (inl h))))
 
-pub known : (words : List (List ℕ)) (folder : Option Folder) (f g : ℕ) (old new : Option (List ℕ)) (c d status : ℕ) → IsEnd words folder f g old new c d status → IsStatus status
-known words folder f g old new c d status (inl r) = known_ending r.ending status r.status_is
-known words folder f g old new c d status (inr (inl h)) = inr (inr (inr (inr (inr (inl h.is)))))
-known words folder f g old new c d status (inr (inr h)) = inr (inr (inr (inr (inr (inr h.is)))))
+pub known : (words : List (List ℕ)) (folder : Option Folder) (f g : List ℕ → ℕ) (old new : Option (List ℕ)) (c d s t status : ℕ) → IsEnd words folder f g old new c d s t status → IsStatus status
+known words folder f g old new c d s t status (inl r) = known_ending r.ending status r.status_is
+known words folder f g old new c d s t status (inr (inl h)) = inr (inr (inr (inr (inr (inl h.is)))))
+known words folder f g old new c d s t status (inr (inr h)) = inr (inr (inr (inr (inr (inr h.is)))))
 
 -- words in no form name no file
-names_none : (words : List (List ℕ)) (name : List ℕ) → IsNoCommand words → NamesFile words name → ⊥
-names_none words name none (inl check) = none.no_check name check
-names_none words name none (inr (other, inl sim)) = none.no_sim name other sim
-names_none words name none (inr (other, inr sim)) = none.no_sim other name sim
+none_to_read : (words : List (List ℕ)) (folder : Option Folder) (name : List ℕ) → IsNoCommand words → IsToRead words folder name → ⊥
+none_to_read words folder name none (inl check) = none.no_check name check
+none_to_read words folder name none (inr (inl (scenario, sim))) = none.no_sim name scenario sim
+none_to_read words folder name none (inr (inr sim)) = none.no_sim sim.script name sim.words_are
 
 none_refused : (words : List (List ℕ)) (folder : Option Folder) (kind : ℕ) (at : Place) → IsNoCommand words → IsRefused words folder kind at → ⊥
 none_refused words folder kind at none (inl r) = none.no_check r.file r.words_are
 none_refused words folder kind at none (inr r) = none.no_sim r.script r.scenario r.words_are
 
-no_command_in : (words : List (List ℕ)) (folder : Option Folder) (f g status : ℕ) (ending : Ending)
+no_command_in : (words : List (List ℕ)) (folder : Option Folder) (f g : List ℕ → ℕ) (status : ℕ) (ending : Ending)
     → status ≡ status_of ending → IsEnding words folder f g ending → IsNoCommand words → status ≡ 1
 no_command_in words folder f g status outcome.Accepted is ends none = absurd (none.no_check ends.file ends.words_are)
 no_command_in words folder f g status (outcome.Ran trace) is ends none = absurd (none.no_sim ends.script ends.scenario ends.words_are)
 no_command_in words folder f g status outcome.Usage is ends none = is
 no_command_in words folder f g status (outcome.Refused kind at) is ends none = absurd (none_refused words folder kind at none ends)
 no_command_in words folder f g status (outcome.WrongLine line) is ends none = absurd (none.no_sim ends.script ends.scenario ends.words_are)
-no_command_in words folder f g status (outcome.Unread name) is ends none = absurd (names_none words (string_bytes name) none ends.names)
+no_command_in words folder f g status (outcome.Unread name) is ends none = absurd (none_to_read words folder name.now none ends.is_to_read)
 
-pub no_command : (words : List (List ℕ)) (folder : Option Folder) (f g : ℕ) (old new : Option (List ℕ)) (c d status : ℕ) → IsEnd words folder f g old new c d status → IsNoCommand words → Gives 1 f g c d status
-no_command words folder f g old new c d status (inl r) none still calm = inl (no_command_in words folder f g status r.ending r.status_is r.ends none)
-no_command words folder f g old new c d status (inr (inl h)) none still calm = absurd (calm h.rose)
-no_command words folder f g old new c d status (inr (inr h)) none still calm = inr h.is
+pub no_command : (words : List (List ℕ)) (folder : Option Folder) (f g : List ℕ → ℕ) (old new : Option (List ℕ)) (c d s t status : ℕ) → IsEnd words folder f g old new c d s t status → IsNoCommand words → Gives 1 f g c d status
+no_command words folder f g old new c d s t status (inl r) none still calm = inl (no_command_in words folder f g status r.ending r.status_is r.ends none)
+no_command words folder f g old new c d s t status (inr (inl h)) none still calm = absurd (calm h.rose)
+no_command words folder f g old new c d s t status (inr (inr h)) none still calm = inr h.is

@@ -1,7 +1,6 @@
 -- How a command ends: what holds of its words and files, the status, and what is printed.
 use Rattle.std.specs.Prelude.{◌≡◌, ◌≢◌, ℕ, ◌<◌, ◌≤◌, ◌⊎◌, List, [], ◌∷◌, ◌++◌, Option, Some, length, codes}
 use Rattle.std.specs.Fmt.{decimal}
-use Rattle.std.specs.String.{string_bytes}
 use Rattle.outside_ports.specs.Counts.{Rises}
 use Rattle.outside_ports.specs.Files.{Folder, Holds, IsLonger}
 use Rattle.outside_ports.specs.Told.{Grows}
@@ -116,23 +115,30 @@ IsDone words folder printed = (IsAccepted words folder × (printed ≡ accepted_
 abbrev pub IsRefused : List (List ℕ) → Option Folder → ℕ → Place → Type 0
 IsRefused words folder kind at = IsRefusedByCheck words folder kind at ⊎ IsRefusedBySim words folder kind at
 
--- the words name a file so
-abbrev pub NamesFile : List (List ℕ) → List ℕ → Type 0
-NamesFile words name =
-    (words ≡ check_words name) ⊎ ((other : List ℕ) × ((words ≡ sim_words name other) ⊎ (words ≡ sim_words other name)))
+-- the words are `sim`, and the file of this name is the scenario, behind a script that reads
+pub record IsScenarioOf (words : List (List ℕ)) (folder : Option Folder) (name : List ℕ) : Type 0 where
+  pub script : List ℕ
+  pub words_are : words ≡ sim_words script name
+  pub answer : AnswerAll
+  pub accepted : ReadsScript folder script answer
 
--- the file of this name was not read: the count of faults rose
-pub record IsUnread (words : List (List ℕ)) (old_faults new_faults : ℕ) (name : List ℕ) : Type 0 where
-  pub names : NamesFile words name
-  pub rose : Rises old_faults new_faults
+-- the file of this name is to be read: it is the script, or the scenario behind a script that reads
+abbrev pub IsToRead : List (List ℕ) → Option Folder → List ℕ → Type 0
+IsToRead words folder name =
+    (words ≡ check_words name) ⊎ (((scenario : List ℕ) × (words ≡ sim_words name scenario)) ⊎ IsScenarioOf words folder name)
 
-abbrev pub IsEnding : List (List ℕ) → Option Folder → ℕ → ℕ → Ending → Type 0
+-- the file of this name was to be read, and was not: its count of faults rose
+pub record IsUnread (words : List (List ℕ)) (folder : Option Folder) (old_faults new_faults : List ℕ → ℕ) (name : List ℕ) : Type 0 where
+  pub is_to_read : IsToRead words folder name
+  pub rose : Rises (old_faults name) (new_faults name)
+
+abbrev pub IsEnding : List (List ℕ) → Option Folder → (List ℕ → ℕ) → (List ℕ → ℕ) → Ending → Type 0
 IsEnding words folder old_faults new_faults outcome.Accepted = IsAccepted words folder
 IsEnding words folder old_faults new_faults (outcome.Ran text) = IsRun words folder text.items
 IsEnding words folder old_faults new_faults outcome.Usage = IsNoCommand words
 IsEnding words folder old_faults new_faults (outcome.Refused kind at) = IsRefused words folder kind at
 IsEnding words folder old_faults new_faults (outcome.WrongLine line) = IsWrongLine words folder line
-IsEnding words folder old_faults new_faults (outcome.Unread name) = IsUnread words old_faults new_faults (string_bytes name)
+IsEnding words folder old_faults new_faults (outcome.Unread name) = IsUnread words folder old_faults new_faults name.now
 
 abbrev pub status_of : Ending → ℕ
 status_of outcome.Accepted = 0
@@ -148,7 +154,7 @@ text_of (outcome.Ran text) = text.items
 text_of outcome.Usage = usage_line
 text_of (outcome.Refused kind at) = refused_line kind at
 text_of (outcome.WrongLine line) = wrong_line line
-text_of (outcome.Unread name) = unread_line (string_bytes name)
+text_of (outcome.Unread name) = unread_line name.now
 
 -- nothing was printed, and the console's count of faults rose
 pub record Fails (old new : Option (List ℕ)) (old_faults new_faults status : ℕ) : Type 0 where
@@ -156,36 +162,47 @@ pub record Fails (old new : Option (List ℕ)) (old_faults new_faults status : �
   pub rose : Rises old_faults new_faults
   pub nothing : Grows old new []
 
--- no memory was found: the line that says so was printed, or nothing
-pub record RunsOut (old new : Option (List ℕ)) (status : ℕ) : Type 0 where
+-- the line of no memory was printed; or nothing was, and the console's count of shortages rose
+abbrev pub PrintsMemory : Option (List ℕ) → Option (List ℕ) → ℕ → ℕ → Type 0
+PrintsMemory old new old_shortages new_shortages =
+    Grows old new memory_line ⊎ (Rises old_shortages new_shortages × Grows old new [])
+
+-- no memory was found
+pub record RunsOut (old new : Option (List ℕ)) (old_shortages new_shortages status : ℕ) : Type 0 where
   pub is : status ≡ 8
-  pub line : Grows old new memory_line ⊎ Grows old new []
+  pub line : PrintsMemory old new old_shortages new_shortages
 
 -- this text was printed with this status, unless the console failed or no memory was found
-abbrev pub IsPrinted : ℕ → List ℕ → Option (List ℕ) → Option (List ℕ) → ℕ → ℕ → ℕ → Type 0
-IsPrinted meant text old new old_faults new_faults status =
-    ((status ≡ meant) × Grows old new text) ⊎ (Fails old new old_faults new_faults status ⊎ RunsOut old new status)
+abbrev pub IsPrinted : ℕ → List ℕ → Option (List ℕ) → Option (List ℕ) → ℕ → ℕ → ℕ → ℕ → ℕ → Type 0
+IsPrinted meant text old new old_faults new_faults old_shortages new_shortages status =
+    ((status ≡ meant) × Grows old new text) ⊎ (Fails old new old_faults new_faults status ⊎ RunsOut old new old_shortages new_shortages status)
 
 -- the command ended in one of the ways, and that was printed
-pub record IsReported (words : List (List ℕ)) (folder : Option Folder) (old_files new_files : ℕ) (old new : Option (List ℕ)) (status : ℕ) : Type 0 where
+pub record IsReported (words : List (List ℕ)) (folder : Option Folder) (old_files new_files : List ℕ → ℕ) (old new : Option (List ℕ)) (status : ℕ) : Type 0 where
   pub ending : Ending
   pub ends : IsEnding words folder old_files new_files ending
   pub status_is : status ≡ status_of ending
   pub text : Grows old new (text_of ending)
 
-abbrev pub IsEnd : List (List ℕ) → Option Folder → ℕ → ℕ → Option (List ℕ) → Option (List ℕ) → ℕ → ℕ → ℕ → Type 0
-IsEnd words folder old_files new_files old new old_faults new_faults status =
-    IsReported words folder old_files new_files old new status ⊎ (Fails old new old_faults new_faults status ⊎ RunsOut old new status)
+-- how a command may end: so, or the console failed, or no memory was found
+abbrev pub IsEnd : List (List ℕ) → Option Folder → (List ℕ → ℕ) → (List ℕ → ℕ) → Option (List ℕ) → Option (List ℕ) → ℕ → ℕ → ℕ → ℕ → ℕ → Type 0
+IsEnd words folder old_files new_files old new old_faults new_faults old_shortages new_shortages status =
+    IsReported words folder old_files new_files old new status
+    ⊎ (Fails old new old_faults new_faults status ⊎ RunsOut old new old_shortages new_shortages status)
 
 -- each status that there is
 abbrev pub IsStatus : ℕ → Type 0
 IsStatus status =
     (status ≡ 0) ⊎ ((status ≡ 1) ⊎ ((status ≡ 2) ⊎ ((status ≡ 3) ⊎ ((status ≡ 4) ⊎ ((status ≡ 5) ⊎ (status ≡ 8))))))
 
+-- no file's count of faults rose
+abbrev pub IsCalm : (List ℕ → ℕ) → (List ℕ → ℕ) → Type 0
+IsCalm old_files new_files = (name : List ℕ) → ¬ Rises (old_files name) (new_files name)
+
 -- the status, where no count of faults rose: the one that is meant, or the one of no memory
-abbrev pub Gives : ℕ → ℕ → ℕ → ℕ → ℕ → ℕ → Type 0
+abbrev pub Gives : ℕ → (List ℕ → ℕ) → (List ℕ → ℕ) → ℕ → ℕ → ℕ → Type 0
 Gives meant old_files new_files old_faults new_faults status =
-    ¬ Rises old_files new_files → ¬ Rises old_faults new_faults → (status ≡ meant) ⊎ (status ≡ 8)
+    IsCalm old_files new_files → ¬ Rises old_faults new_faults → (status ≡ meant) ⊎ (status ≡ 8)
 
 -- the folder is told, and this name holds these bytes, which are no more than the limit
 pub record Tells (folder : Option Folder) (name : List ℕ) (limit : ℕ) (text : List ℕ) : Type 0 where

@@ -15,7 +15,7 @@ mod sim;
 mod top;
 mod trace;
 
-pub use top::simulate;
+pub use top::{report_no_memory, simulate};
 
 #[cfg(test)]
 mod tests;

@@ -19,6 +19,7 @@ ghost use Rattle.proxy_top.specs.Endings.{
   IsToRefuse,
   IsTooLong,
   PrintsRefusal,
+  PrintsMemory,
   IsInNoForm,
   IsInWrongLine,
   IsReady,
@@ -58,7 +59,7 @@ const PAST_LONGEST: Place = Place {
 const NOWHERE: Place = Place { from: 0, to: 0 };
 
 /// How a command ended.
-enum Ending {
+enum Ending<'a> {
     /// `check`: the script is accepted.
     Accepted,
     /// `sim`: the trace of the run.
@@ -70,7 +71,7 @@ enum Ending {
     /// The first line of the scenario that is in no form; 0 where the scenario is too long.
     WrongLine(u64),
     /// The file of this name can't be read.
-    Unread(String),
+    Unread(&'a str),
 }
 
 /// Runs the command that the words name, prints what it prints in one call, and answers its status.
@@ -82,9 +83,11 @@ enum Ending {
 /// | 2 | the script isn't accepted | `refused KIND at FROM..TO` |
 /// | 3 | that line of the scenario is the first in no form | `scenario line N` |
 /// | 4 | a file couldn't be read | `cannot read NAME` |
-/// | 5 | the console failed | |
-/// | 8 | no memory was found | `out of memory`, or nothing |
+/// | 5 | the console failed, whatever the command came to | |
+/// | 8 | no memory was found | `out of memory`, or nothing where the console found none |
 ///
+/// The scenario is read once the script was read and is one. So status 4 comes with the scenario's name behind a script
+/// that reads alone, and with no other name than that of a file whose count of faults rose.
 /// A script of more than 1,048,576 bytes is refused by `check` with kind 13 at 1048576..1048577. Each script that `sim`
 /// refuses is of kind 3 at 0..0. Of a refusal of kind 3 by `check` no clause says the place.
 #[tactic(auto, using(crate::proofs::Statuses::done, crate::proofs::Statuses::usage, crate::proofs::Statuses::refused, crate::proofs::Statuses::in_wrong_line, crate::proofs::Statuses::unread, crate::proofs::Statuses::failed, crate::proofs::Statuses::memory, crate::proofs::Statuses::known, crate::proofs::Statuses::no_command, crate::proofs::Causes::no_form, crate::proofs::Checks::too_long, crate::proofs::Checks::too_long_line))]
@@ -102,13 +105,19 @@ pub fn simulate<F: Files, C: Console>(
         × Grows (C.printed console.old) (C.printed console.new) (refused_line kind at) }
     ensures wrong_line { result ≡ 3 → (line : ℕ) × IsWrongLine (words_of words.now) (F.folder files.old) line
         × Grows (C.printed console.old) (C.printed console.new) (wrong_line line) }
-    ensures unread { result ≡ 4 → (name : List ℕ) × IsUnread (words_of words.now) (F.faults files.old) (F.faults files.new) name
+    ensures unread { result ≡ 4 → (name : List ℕ)
+        × IsUnread (words_of words.now) (F.folder files.old) (F.faults files.old) (F.faults files.new) name
         × Grows (C.printed console.old) (C.printed console.new) (unread_line name) }
     ensures failed { result ≡ 5 → Rises (C.faults console.old) (C.faults console.new)
         × Grows (C.printed console.old) (C.printed console.new) [] }
-    ensures memory { result ≡ 8 → Grows (C.printed console.old) (C.printed console.new) memory_line
-        ⊎ Grows (C.printed console.old) (C.printed console.new) [] }
+    ensures memory { result ≡ 8 → PrintsMemory (C.printed console.old) (C.printed console.new)
+        (C.shortages console.old) (C.shortages console.new) }
     ensures known { IsStatus result }
+
+    // All of the clauses above in one.
+    ensures ended { IsEnd (words_of words.now) (F.folder files.old) (F.faults files.old) (F.faults files.new)
+        (C.printed console.old) (C.printed console.new) (C.faults console.old) (C.faults console.new)
+        (C.shortages console.old) (C.shortages console.new) result }
 
     // Where no count of faults rose, words and files that are told leave one status, but for want of memory.
     ensures no_command { IsNoCommand (words_of words.now)
@@ -133,8 +142,9 @@ pub fn simulate<F: Files, C: Console>(
         → result ≡ 2 → Grows (C.printed console.old) (C.printed console.new) (refused_line 13 (place 1048576 1048577)) }
 
     ensures same { F.folder files.new ≡ F.folder files.old }
-    ensures files_never_fall { F.faults files.old ≤ F.faults files.new }
+    ensures files_never_fall { (name : List ℕ) → F.faults files.old name ≤ F.faults files.new name }
     ensures console_never_falls { C.faults console.old ≤ C.faults console.new }
+    ensures shortages_never_fall { C.shortages console.old ≤ C.shortages console.new }
 {
     no_text_is_accepted_and_refused();
     a_text_is_refused_in_one_way();
@@ -149,35 +159,52 @@ fn run_and_print<F: Files, C: Console>(
     console: &mut C,
 ) -> u8
     ensures ended { IsEnd (words_of words.now) (F.folder files.old) (F.faults files.old) (F.faults files.new)
-        (C.printed console.old) (C.printed console.new) (C.faults console.old) (C.faults console.new) result }
+        (C.printed console.old) (C.printed console.new) (C.faults console.old) (C.faults console.new)
+        (C.shortages console.old) (C.shortages console.new) result }
     ensures same { F.folder files.new ≡ F.folder files.old }
-    ensures files_never_fall { F.faults files.old ≤ F.faults files.new }
+    ensures files_never_fall { (name : List ℕ) → F.faults files.old name ≤ F.faults files.new name }
     ensures console_never_falls { C.faults console.old ≤ C.faults console.new }
+    ensures shortages_never_fall { C.shortages console.old ≤ C.shortages console.new }
 {
     match run_command(alloc, words, files) {
         Ok(ending) => report(alloc, ending, console),
-        Err(NoMemory) => print(console, 8, OUT_OF_MEMORY),
+        Err(NoMemory) => report_no_memory(console),
     }
 }
 
 /// Prints how a command ended, and answers its status.
-fn report<C: Console>(alloc: Global, ending: Ending, console: &mut C) -> u8
-    ensures printed { IsPrinted (status_of ending) (text_of ending)
-        (C.printed console.old) (C.printed console.new) (C.faults console.old) (C.faults console.new) result }
+fn report<C: Console>(alloc: Global, ending: Ending<'_>, console: &mut C) -> u8
+    ensures printed { IsPrinted (status_of ending.entry) (text_of ending.entry)
+        (C.printed console.old) (C.printed console.new) (C.faults console.old) (C.faults console.new)
+        (C.shortages console.old) (C.shortages console.new) result }
     ensures never_falls { C.faults console.old ≤ C.faults console.new }
+    ensures shortages_never_fall { C.shortages console.old ≤ C.shortages console.new }
 {
     let status = ending.status();
     match ending.into_text(alloc) {
         Ok(text) => print(console, status, text.as_slice()),
-        Err(NoMemory) => print(console, 8, OUT_OF_MEMORY),
+        Err(NoMemory) => report_no_memory(console),
     }
+}
+
+/// Prints `out of memory`, and answers 8; or 5 where the console fails.
+pub fn report_no_memory<C: Console>(console: &mut C) -> u8
+    ensures printed { IsPrinted 8 memory_line
+        (C.printed console.old) (C.printed console.new) (C.faults console.old) (C.faults console.new)
+        (C.shortages console.old) (C.shortages console.new) result }
+    ensures never_falls { C.faults console.old ≤ C.faults console.new }
+    ensures shortages_never_fall { C.shortages console.old ≤ C.shortages console.new }
+{
+    print(console, 8, b"out of memory\n")
 }
 
 /// Prints the text. The status is 5 where the console fails, and 8 where it finds no memory.
 fn print<C: Console>(console: &mut C, status: u8, text: &[u8]) -> u8
     ensures printed { IsPrinted status text.now
-        (C.printed console.old) (C.printed console.new) (C.faults console.old) (C.faults console.new) result }
+        (C.printed console.old) (C.printed console.new) (C.faults console.old) (C.faults console.new)
+        (C.shortages console.old) (C.shortages console.new) result }
     ensures never_falls { C.faults console.old ≤ C.faults console.new }
+    ensures shortages_never_fall { C.shortages console.old ≤ C.shortages console.new }
 {
     match console.print(text) {
         PrintEnd::Printed => status,
@@ -186,7 +213,7 @@ fn print<C: Console>(console: &mut C, status: u8, text: &[u8]) -> u8
     }
 }
 
-impl Ending {
+impl Ending<'_> {
     fn status(&self) -> u8
         ensures { result ≡ status_of self.now }
     {
@@ -200,7 +227,7 @@ impl Ending {
     }
 
     fn into_text(self, alloc: Global) -> Result<Vec<u8>, NoMemory>
-        ensures { IfOk result (λ text. text.items ≡ text_of self) }
+        ensures { IfOk result (λ text. text.items ≡ text_of self.entry) }
     {
         match self {
             Ending::Accepted => Vec::from_slice(alloc, b"accepted\n"),
@@ -237,15 +264,17 @@ fn refused_line(alloc: Global, kind: u8, at: Place) -> Result<Vec<u8>, NoMemory>
     Ok(text)
 }
 
-const OUT_OF_MEMORY: &[u8] = b"out of memory\n";
-
 const USAGE: &[u8] =
     b"usage: sipscript check FILE, sim FILE SCENARIO, load N, serve FILE [options]\n";
 
-fn run_command<F: Files>(alloc: Global, words: &[String], files: &mut F) -> Result<Ending, NoMemory>
-    ensures ended { IfOk result (IsEnding (words_of words.now) (F.folder files.old) (F.faults files.old) (F.faults files.new)) }
+fn run_command<'a, F: Files>(
+    alloc: Global,
+    words: &'a [String],
+    files: &mut F,
+) -> Result<Ending<'a>, NoMemory>
+    ensures ended { IfOk result (IsEnding (words_of words.entry.now) (F.folder files.old) (F.faults files.old) (F.faults files.new)) }
     ensures same { F.folder files.new ≡ F.folder files.old }
-    ensures never_falls { F.faults files.old ≤ F.faults files.new }
+    ensures never_falls { (name : List ℕ) → F.faults files.old name ≤ F.faults files.new name }
 {
     match read_command(words) {
         Some(Command::Check { script }) => check(alloc, script, files),
@@ -255,14 +284,18 @@ fn run_command<F: Files>(alloc: Global, words: &[String], files: &mut F) -> Resu
 }
 
 /// `check FILE`: the script file, then the script.
-fn check<F: Files>(alloc: Global, script: &str, files: &mut F) -> Result<Ending, NoMemory>
-    ensures ended { IfOk result (IsEnding (check_words script.now) (F.folder files.old) (F.faults files.old) (F.faults files.new)) }
+fn check<'a, F: Files>(
+    alloc: Global,
+    file: &'a str,
+    files: &mut F,
+) -> Result<Ending<'a>, NoMemory>
+    ensures ended { IfOk result (IsEnding (check_words file.entry.now) (F.folder files.old) (F.faults files.old) (F.faults files.new)) }
     ensures same { F.folder files.new ≡ F.folder files.old }
-    ensures never_falls { F.faults files.old ≤ F.faults files.new }
+    ensures never_falls { (name : List ℕ) → F.faults files.old name ≤ F.faults files.new name }
 {
-    let text = match files.read(alloc, script, LONGEST_SCRIPT) {
+    let text = match files.read(alloc, file, LONGEST_SCRIPT) {
         Ok(text) => text,
-        Err(FileFault::Failed) => return Ok(Ending::Unread(String::from_str(alloc, script)?)),
+        Err(FileFault::Failed) => return Ok(Ending::Unread(file)),
         Err(FileFault::TooLong) => {
             return Ok(Ending::Refused {
                 kind: 13,
@@ -279,19 +312,20 @@ fn check<F: Files>(alloc: Global, script: &str, files: &mut F) -> Result<Ending,
 }
 
 /// `sim FILE SCENARIO`: the script file, the script, the scenario file, the scenario, then the run.
-fn sim<F: Files>(
+#[tactic(auto, using(crate::proofs::Causes::no_script))]
+fn sim<'a, F: Files>(
     alloc: Global,
-    script: &str,
-    scenario: &str,
+    script: &'a str,
+    scenario: &'a str,
     files: &mut F,
-) -> Result<Ending, NoMemory>
-    ensures ended { IfOk result (IsEnding (sim_words script.now scenario.now) (F.folder files.old) (F.faults files.old) (F.faults files.new)) }
+) -> Result<Ending<'a>, NoMemory>
+    ensures ended { IfOk result (IsEnding (sim_words script.entry.now scenario.entry.now) (F.folder files.old) (F.faults files.old) (F.faults files.new)) }
     ensures same { F.folder files.new ≡ F.folder files.old }
-    ensures never_falls { F.faults files.old ≤ F.faults files.new }
+    ensures never_falls { (name : List ℕ) → F.faults files.old name ≤ F.faults files.new name }
 {
     let text = match files.read(alloc, script, LONGEST_SCRIPT) {
         Ok(text) => text,
-        Err(FileFault::Failed) => return Ok(Ending::Unread(String::from_str(alloc, script)?)),
+        Err(FileFault::Failed) => return Ok(Ending::Unread(script)),
         Err(FileFault::TooLong) => return Ok(Ending::Refused {
             kind: 3,
             at: NOWHERE,
@@ -306,7 +340,7 @@ fn sim<F: Files>(
     };
     let lines = match files.read(alloc, scenario, LONGEST_SCENARIO) {
         Ok(lines) => lines,
-        Err(FileFault::Failed) => return Ok(Ending::Unread(String::from_str(alloc, scenario)?)),
+        Err(FileFault::Failed) => return Ok(Ending::Unread(scenario)),
         Err(FileFault::TooLong) => return Ok(Ending::WrongLine(0)),
         Err(FileFault::NoMemory) => return Err(NoMemory),
     };

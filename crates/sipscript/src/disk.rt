@@ -6,7 +6,7 @@ use std::alloc::Global;
 use std::fs;
 use std::io::Read;
 
-/// The files of the file system, by path. It tells nothing of what they hold.
+/// The files of the file system, by path. It tells nothing of what they hold. Its count of faults is one for all names.
 #[derive(Drop)]
 pub struct Disk<'a, R> {
     rt: &'a R,
@@ -55,7 +55,7 @@ impl<R: std::rt::Files> Files for Disk<'_, R> {
 
     ghost folder = { λ _. None };
 
-    ghost faults = { λ d. d.faults };
+    ghost faults = { λ d _. d.faults };
 
     fn read(&mut self, alloc: Global, name: &str, limit: usize) -> Result<Vec<u8>, FileFault> {
         let read = read_limited(self.rt, alloc, name, limit);

@@ -4,35 +4,64 @@
 mod disk;
 mod terminal;
 
+ghost use Rattle.std.specs.Prelude.{IfOk, IfErr};
+ghost use Rattle.std.specs.Process.{exit_status};
+ghost use Rattle.proxy_top.specs.Commands.{words_of};
+ghost use Rattle.proxy_top.specs.Endings.{IsEnd, IsPrinted, memory_line};
+
 use crate::disk::Disk;
 use crate::terminal::Terminal;
-use outside_ports::Console;
-use proxy_top::simulate;
+use outside_ports::{Console, Files};
+use proxy_top::{report_no_memory, simulate};
+use std::alloc::{AllocError as NoMemory, Global};
 use std::process::ExitCode;
 use std::{env, io};
 
-/// The words of the command line, without the program's name.
-fn words(rt: &HostRuntime) -> io::Result<Vec<String>> {
+/// The words of the command line, without the program's name. Where one isn't UTF-8 there are none: no words are in no
+/// form either.
+fn words(rt: &HostRuntime) -> Result<Vec<String>, NoMemory> {
     let mut words = Vec::new(rt.alloc());
-    for word in env::args(rt)?.skip(1) {
-        words.push(word)?;
+    match env::args(rt) {
+        Ok(all) => {
+            for word in all.skip(1) {
+                words.push(word)?;
+            }
+        }
+        Err(error) if error.kind() == io::ErrorKind::OutOfMemory => return Err(NoMemory),
+        Err(_) => {}
     }
     Ok(words)
 }
 
-fn main(rt: HostRuntime) -> ExitCode {
-    let mut files = Disk::new(&rt);
-    let mut console = Terminal::new(&rt);
-    let status = match words(&rt) {
-        Ok(words) => simulate(rt.alloc(), words.as_slice(), &mut files, &mut console),
-        Err(error) if error.kind() == io::ErrorKind::OutOfMemory => {
-            let _ = console.print(b"out of memory\n");
-            8
-        }
-        // A word that isn't UTF-8 is in no form, as no words are.
-        Err(_) => simulate(rt.alloc(), &[], &mut files, &mut console),
+/// Does what the words ask for. The status is that of `simulate`; without memory for the words it is that of no memory.
+fn run<F: Files, C: Console>(
+    alloc: Global,
+    words: Result<Vec<String>, NoMemory>,
+    files: &mut F,
+    console: &mut C,
+) -> ExitCode
+    ensures ended { IfOk words (λ w. IsEnd (words_of w.items) (F.folder files.old) (F.faults files.old) (F.faults files.new)
+        (C.printed console.old) (C.printed console.new) (C.faults console.old) (C.faults console.new)
+        (C.shortages console.old) (C.shortages console.new) (exit_status result)) }
+    ensures no_memory { IfErr words (λ _. IsPrinted 8 memory_line
+        (C.printed console.old) (C.printed console.new) (C.faults console.old) (C.faults console.new)
+        (C.shortages console.old) (C.shortages console.new) (exit_status result)) }
+{
+    let status = match words {
+        Ok(words) => simulate(alloc, words.as_slice(), files, console),
+        Err(NoMemory) => report_no_memory(console),
     };
     ExitCode::from(status)
+}
+
+fn main(rt: HostRuntime) -> ExitCode {
+    let words = words(&rt);
+    run(
+        rt.alloc(),
+        words,
+        &mut Disk::new(&rt),
+        &mut Terminal::new(&rt),
+    )
 }
 
 #[cfg(test)]

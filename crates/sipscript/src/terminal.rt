@@ -1,9 +1,9 @@
 //! Standard output.
 
 use outside_ports::{Console, PrintEnd};
-use std::io::Write;
 
-/// Standard output. It tells nothing of what was printed, and never answers `NoMemory`.
+/// Standard output. It tells nothing of what was printed. Its count of shortages is 0 always, so it never answers
+/// `NoMemory`.
 #[derive(Drop)]
 pub struct Terminal<'a, R> {
     rt: &'a R,
@@ -23,8 +23,10 @@ impl<R: Print> Console for Terminal<'_, R> {
 
     ghost faults = { λ t. t.faults };
 
+    ghost shortages = { λ _. 0 };
+
     fn print(&mut self, bytes: &[u8]) -> PrintEnd {
-        if std::io::writer(self.rt).write_all(bytes).is_ok() {
+        if self.rt.write_all(bytes).is_ok() {
             PrintEnd::Printed
         } else {
             self.faults = self.faults.saturating_add(1);
