@@ -284,11 +284,7 @@ fn run_command<'a, F: Files>(
 }
 
 /// `check FILE`: the script file, then the script.
-fn check<'a, F: Files>(
-    alloc: Global,
-    file: &'a str,
-    files: &mut F,
-) -> Result<Ending<'a>, NoMemory>
+fn check<'a, F: Files>(alloc: Global, file: &'a str, files: &mut F) -> Result<Ending<'a>, NoMemory>
     ensures ended { IfOk result (IsEnding (check_words file.entry.now) (F.folder files.old) (F.faults files.old) (F.faults files.new)) }
     ensures same { F.folder files.new ≡ F.folder files.old }
     ensures never_falls { (name : List ℕ) → F.faults files.old name ≤ F.faults files.new name }
