@@ -7,7 +7,7 @@ ghost use Rattle.sip_msg.specs.StartGrammar.{IsStartAt};
 ghost use Rattle.sip_msg.specs.Table.{fault_of, first_row, later_rows, is_above, end_behind, HasParts, Reads};
 ghost use Rattle.sip_msg.specs.declared.message.Message.{Message};
 
-use crate::fields::{is_missing, is_repeated};
+use crate::fields::Kinds;
 use crate::start::start_at;
 use crate::values::values_of;
 use crate::{Span, Start};
@@ -89,13 +89,14 @@ fn parts_into(b: &[u8], start: Start, m: &mut Message) -> Result<(), MsgFault>
     ensures lie { IfOk result (λ _. PartsLie b.now m.new) }
     ensures complete { IfOk result (λ _. IsComplete m.new.head.fields.items) }
 {
-    if is_missing(&m.head.fields) {
+    let kinds = Kinds::of(&m.head.fields);
+    if kinds.is_missing() {
         return Err(MsgFault::Missing);
     }
-    if is_repeated(&m.head.fields) {
+    if kinds.is_repeated() {
         return Err(MsgFault::Repeated);
     }
-    let Some(values) = values_of(b, start, &m.head.fields) else {
+    let Some(values) = values_of(b, start, &kinds) else {
         return Err(MsgFault::BadField);
     };
     let Some(end) = end_of(b, m.head.body, values.content_length) else {

@@ -1,7 +1,7 @@
 //! Datagrams worked out by hand.
 ghost use Rattle.std.specs.Prelude.{◌≤◌, length};
 
-use crate::fields::{count, first};
+use crate::fields::Kinds;
 use crate::{Message, MsgFault, Start, read_basis};
 use sip_fields::Host;
 use sip_scan::{Kind, scan};
@@ -493,15 +493,54 @@ fn fields_are_found_by_their_kinds(rt: HostRuntime) {
     ];
     match scan(text) {
         Ok(head) => {
+            let kinds = Kinds::of(&head.fields);
             for (kind, number, whole) in rows {
-                assert_eq!(rt; count(&head.fields, kind), number);
-                let found = first(text, &head.fields, kind);
+                assert_eq!(rt; kinds.count(kind), number);
+                let found = kinds.first(text, kind);
                 assert!(rt;
                     found.and_then(|field| text.get(field.whole.from..field.whole.to)) == whole
                 );
             }
         }
         Err(_) => assert!(rt; false),
+    }
+}
+
+/// Whatever a room held before: another message, or a part of one that doesn't read.
+#[test]
+fn a_room_is_used_again(rt: HostRuntime) {
+    let mut room = Message::room();
+    let rows: [(&'static [u8], Result<(), MsgFault>, usize, &'static [u8]); 4] = [
+        (
+            b"OPTIONS sip:b@h SIP/2.0\r\nv:SIP/2.0/UDP h;branch=z9hG4bKm\r\nf:<sip:a@h>;tag=1\r\nt:sip:b@h;tag=2\r\ni:m\r\nCSeq:1 OPTIONS\r\nMax-Forwards:9\r\n\r\n",
+            Ok(()),
+            6,
+            b"m",
+        ),
+        (
+            b"OPTIONS sip:b@h SIP/2.0\r\nv:SIP/2.0/UDP h;branch=z9hG4bKm\r\nf:<sip:a@h>;tag=1\r\ni:m\r\n\r\n",
+            Err(MsgFault::Missing),
+            0,
+            b"",
+        ),
+        (
+            b"SIP/2.0 200 OK\r\nv:SIP/2.0/UDP h;branch=z9hG4bKm\r\nf:<sip:a@h>;tag=1\r\nt:sip:b@h\r\ni:other\r\nCSeq:1 BYE\r\n\r\n",
+            Ok(()),
+            5,
+            b"other",
+        ),
+        (b"\r\n\r\n", Err(MsgFault::NotSip), 0, b""),
+    ];
+    for (text, end, fields, call_id) in rows {
+        let told = Message::read_into(text, &mut room);
+        assert!(rt; told == end);
+        if told.is_ok() {
+            assert_eq!(rt; room.head.fields.len(), fields);
+            assert!(rt; text.get(room.call_id.from..room.call_id.to) == Some(call_id));
+            assert_eq!(rt; room.max_forwards.is_some(), fields == 6);
+            assert_eq!(rt; room.to.tag.is_some(), fields == 6);
+            assert_eq!(rt; room.end, text.len());
+        }
     }
 }
 
