@@ -8,3 +8,4 @@ pub mod Places
 pub mod PlainTakes
 pub mod PlainAgain
 pub mod Lies
+pub mod Tally

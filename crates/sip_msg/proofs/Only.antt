@@ -7,6 +7,7 @@ use Rattle.sip_fields.specs.declared.via.Via.{Via}
 use Rattle.sip_fields.specs.declared.name_addr.NameAddr.{NameAddr}
 use Rattle.sip_fields.specs.declared.cseq.CSeq.{CSeq}
 use Rattle.sip_scan.specs.declared.Head.{Head}
+use Rattle.sip_scan.specs.Head.{in_room}
 use Rattle.sip_msg.specs.declared.message.Message.{Message}
 use Rattle.sip_msg.specs.declared.message.MsgFault.{MsgFault}
 use Rattle.sip_msg.specs.declared.start.Start.{Start}
@@ -40,6 +41,7 @@ one_message b m n r s =
     (one_at (λ h. max_forwards_of b h.fields.items) m.head n.head m.max_forwards n.max_forwards head p.max_forwards q.max_forwards)
     (one_at (λ h. end_of b h) m.head n.head m.end n.end head p.end q.end)
 
-pub only_one : (b : List ℕ) (r : Result Message MsgFault) → IfOk r (Reads b) → IfErr r (λ f. fault_of b ≡ Some f) → (m : Message) → Reads b m → r ≡ Ok m
-only_one b (Ok n) found fault m reads = ap (λ (x : Message). Ok x) (one_message b n m found reads)
-only_one b (Err f) found fault m reads = absurd (none-some f (sym reads.no_fault ∙ fault))
+-- what is read into a room
+pub only_in : {U : Type 0} (b : List ℕ) (r : Result U MsgFault) (n : Message) → IfOk r (λ _. Reads b n) → IfErr r (λ f. fault_of b ≡ Some f) → (m : Message) → Reads b m → in_room r n ≡ Ok m
+only_in b (Ok u) n found fault m reads = ap (λ (x : Message). Ok x) (one_message b n m found reads)
+only_in b (Err f) n found fault m reads = absurd (none-some f (sym reads.no_fault ∙ fault))

@@ -133,22 +133,22 @@ short_body b start h v m r some t = rw (m, r, some, t) refl
 pub no_later : (b : List ℕ) (start : Start) (h : Head) (v : Values) → is_missing h.fields.items ≡ false → is_repeated h.fields.items ≡ false → values_of b start h.fields.items ≡ Some v → is_above (length b - h.body) v.content_length ≡ false → first_row (later_rows b start h) ≡ None
 no_later b start h v m r some f = rw (m, r, some, f) refl
 
-pub message_found : (b : List ℕ) (line : Span) (start : Start) (h : Head) (r : Result Message MsgFault) → Begins b line start → scanned b ≡ Ok h → IfOk r (λ m. first_row (later_rows b start h) ≡ None) → IfOk r (λ m. m.head ≡ h) → IfOk r (λ m. m.start ≡ start) → IfOk r (HasParts b) → IfOk r (Reads b)
-message_found b line start h (Err f) is ok none head begun parts = tt
-message_found b line start h (Ok m) is ok none head begun parts = record {
+pub message_found : {U : Type 0} (b : List ℕ) (line : Span) (start : Start) (h : Head) (m : Message) (r : Result U MsgFault) → Begins b line start → scanned b ≡ Ok h → IfOk r (λ _. first_row (later_rows b start h) ≡ None) → IfOk r (λ _. m.head ≡ h) → IfOk r (λ _. m.start ≡ start) → IfOk r (λ _. HasParts b m) → IfOk r (λ _. Reads b m)
+message_found b line start h m (Err f) is ok none head begun parts = tt
+message_found b line start h m (Ok u) is ok none head begun parts = record {
   no_fault = later b line start h is ok ∙ none;
   head = is_head b line start h is ok ∙ ap (λ (x : Head). Some x) (sym head);
   start = is.start_is ∙ ap (λ (x : Start). Some x) (sym begun);
   parts = parts;
 }
 
-pub fault_found : (b : List ℕ) (line : Span) (start : Start) (h : Head) (r : Result Message MsgFault) → Begins b line start → scanned b ≡ Ok h → IfErr r (λ f. first_row (later_rows b start h) ≡ Some f) → IfErr r (λ f. fault_of b ≡ Some f)
-fault_found b line start h (Ok m) is ok fault = tt
+pub fault_found : {U : Type 0} (b : List ℕ) (line : Span) (start : Start) (h : Head) (r : Result U MsgFault) → Begins b line start → scanned b ≡ Ok h → IfErr r (λ f. first_row (later_rows b start h) ≡ Some f) → IfErr r (λ f. fault_of b ≡ Some f)
+fault_found b line start h (Ok u) is ok fault = tt
 fault_found b line start h (Err f) is ok fault = later b line start h is ok ∙ fault
 
-pub message_lies : (b : List ℕ) (line : Span) (start : Start) (h : Head) (r : Result Message MsgFault) → Begins b line start → scanned b ≡ Ok h → scan.LiesIn b h → IsStartBetween line.from line.to start → IfOk r (λ m. m.head ≡ h) → IfOk r (λ m. m.start ≡ start) → IfOk r (PartsLie b) → IfOk r (LiesIn b)
-message_lies b line start h (Err f) is ok head_lies between head begun parts = tt
-message_lies b line start h (Ok m) is ok head_lies between head begun parts =
+pub message_lies : {U : Type 0} (b : List ℕ) (line : Span) (start : Start) (h : Head) (m : Message) (r : Result U MsgFault) → Begins b line start → scanned b ≡ Ok h → scan.LiesIn b h → IsStartBetween line.from line.to start → IfOk r (λ _. m.head ≡ h) → IfOk r (λ _. m.start ≡ start) → IfOk r (λ _. PartsLie b m) → IfOk r (λ _. LiesIn b m)
+message_lies b line start h m (Err f) is ok head_lies between head begun parts = tt
+message_lies b line start h m (Ok u) is ok head_lies between head begun parts =
     let stands : line ≡ m.head.start = start_stands b line h (sym (head_is b line is.line_is) ∙ is_head b line start h is ok) ∙ ap (λ (x : Head). x.start) (sym head) in
     record {
       head = subst (λ (x : Head). scan.LiesIn b x) (sym head) head_lies;
@@ -156,8 +156,8 @@ message_lies b line start h (Ok m) is ok head_lies between head begun parts =
       parts = parts;
     }
 
-pub start_spelled : (b : List ℕ) (line : Span) (start : Start) (h : Head) (r : Result Message MsgFault) → Begins b line start → scanned b ≡ Ok h → IsStartAt (take line.to b) line.from start → IfOk r (λ m. m.head ≡ h) → IfOk r (λ m. m.start ≡ start) → IfOk r (λ m. IsStartAt (take m.head.start.to b) m.head.start.from m.start)
-start_spelled b line start h (Err f) is ok spelled head begun = tt
-start_spelled b line start h (Ok m) is ok spelled head begun =
+pub start_spelled : {U : Type 0} (b : List ℕ) (line : Span) (start : Start) (h : Head) (m : Message) (r : Result U MsgFault) → Begins b line start → scanned b ≡ Ok h → IsStartAt (take line.to b) line.from start → IfOk r (λ _. m.head ≡ h) → IfOk r (λ _. m.start ≡ start) → IfOk r (λ _. IsStartAt (take m.head.start.to b) m.head.start.from m.start)
+start_spelled b line start h m (Err f) is ok spelled head begun = tt
+start_spelled b line start h m (Ok u) is ok spelled head begun =
     let stands : line ≡ m.head.start = start_stands b line h (sym (head_is b line is.line_is) ∙ is_head b line start h is ok) ∙ ap (λ (x : Head). x.start) (sym head) in
     subst (λ (x : Start). IsStartAt (take m.head.start.to b) m.head.start.from x) (sym begun) (subst (λ (l : Span). IsStartAt (take l.to b) l.from start) stands spelled)

@@ -1,33 +1,34 @@
 -- The header fields by their kinds.
-use Rattle.std.specs.Prelude.{ℕ, ◌==◌, Bool, true, false, List, Option, nat_lt}
+use Rattle.std.specs.Prelude.{◌≡◌, ℕ, ◌==◌, ◌<◌, Bool, cond, List, Option, None, nat_lt, slice_get, slice_index}
 use Rattle.std.specs.List.{find, count_by}
 use Rattle.sip_words.specs.Bytes.{◌or◌}
+use Rattle.sip_scan.specs.Field.{kind_number, is_same_kind}
 use Rattle.sip_scan.specs.declared.field.HeaderSpan.{HeaderSpan}
 use Rattle.sip_scan.specs.declared.field.Kind.{Kind}
 use Rattle.sip_scan.specs.declared.field.Kind.TheVariants as kind
 
--- one kind; a field of any other name is of none
-abbrev pub is_kind : Kind → Kind → Bool
-is_kind k other = elim k [
-  | kind.Via ↦ elim other [ kind.Via ↦ true | _ ↦ false ]
-  | kind.From ↦ elim other [ kind.From ↦ true | _ ↦ false ]
-  | kind.To ↦ elim other [ kind.To ↦ true | _ ↦ false ]
-  | kind.CallId ↦ elim other [ kind.CallId ↦ true | _ ↦ false ]
-  | kind.CSeq ↦ elim other [ kind.CSeq ↦ true | _ ↦ false ]
-  | kind.MaxForwards ↦ elim other [ kind.MaxForwards ↦ true | _ ↦ false ]
-  | kind.ContentLength ↦ elim other [ kind.ContentLength ↦ true | _ ↦ false ]
-  | _ ↦ false
-]
-
 unfoldable pub is_of : Kind → HeaderSpan → Bool
-is_of k f = is_kind k f.kind
+is_of k f = is_same_kind k f.kind
 
--- the first field of a kind, and how many there are
+-- the first field of a kind, and how many there are; the fields of every other name are one kind, so `first Other` is
+-- the first of them all
 abbrev pub first : Kind → List HeaderSpan → Option HeaderSpan
 first k fields = find (is_of k) fields
 
 abbrev pub count : Kind → List HeaderSpan → ℕ
 count k fields = count_by (is_of k) fields
+
+-- the same of the kind with this number
+abbrev pub first_of : ℕ → List HeaderSpan → Option HeaderSpan
+first_of n fields = find (λ f. n == kind_number f.kind) fields
+
+abbrev pub count_of : ℕ → List HeaderSpan → ℕ
+count_of n fields = count_by (λ f. n == kind_number f.kind) fields
+
+-- by the numbers of the kinds: how many of these fields there are, and the place of the first where there is one
+pub record IsTally (fields : List HeaderSpan) (firsts counts : List ℕ) : Type 0 where
+  pub counted : (n : ℕ) → n < 11 → slice_index counts n ≡ count_of n fields
+  pub found : (n : ℕ) → n < 11 → cond (slice_index counts n == 0) None (slice_get fields (slice_index firsts n)) ≡ first_of n fields
 
 -- Via, From, To, Call-ID or CSeq is absent
 unfoldable pub is_missing : List HeaderSpan → Bool

@@ -6,6 +6,7 @@ ghost use Rattle.sip_msg.specs.Places.{BasisLiesIn};
 ghost use Rattle.sip_msg.specs.Basis.{version_end, version_behind, uri_behind, first_from, answerable_at, basis_in, basis_of};
 
 use crate::Span;
+use crate::fields::Kinds;
 use crate::message::LONGEST;
 use crate::values::via_of;
 use sip_fields::Via;
@@ -138,7 +139,7 @@ fn basis_in(front: &[u8], too_long: bool) -> Option<Basis>
     let Ok(head) = scan(front) else {
         return None;
     };
-    let via = via_of(front, &head.fields)?;
+    let via = via_of(front, &Kinds::of(&head.fields))?;
     Some(Basis {
         head,
         via,

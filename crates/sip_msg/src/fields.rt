@@ -1,86 +1,90 @@
 //! Header fields by their kinds.
-ghost use Rattle.std.specs.Prelude.{◌≡◌, All, IfSome, List, ℕ, length, ◌≤◌};
+ghost use Rattle.std.specs.Prelude.{◌≡◌, All, IfSome};
 ghost use Rattle.sip_scan.specs.Field.{IsField};
-ghost use Rattle.sip_msg.specs.Fields.{is_kind, is_of, first, count, is_missing, is_repeated};
+ghost use Rattle.sip_msg.specs.Fields.{IsTally, first, count, is_missing, is_repeated};
 
 use sip_scan::{HeaderSpan, Kind};
 
-/// Whether these are one kind. A field of any other name is of none.
-fn is_kind(kind: Kind, other: Kind) -> bool
-    ensures { result ≡ is_kind kind other }
-{
-    match kind {
-        Kind::Via => matches!(other, Kind::Via),
-        Kind::From => matches!(other, Kind::From),
-        Kind::To => matches!(other, Kind::To),
-        Kind::CallId => matches!(other, Kind::CallId),
-        Kind::CSeq => matches!(other, Kind::CSeq),
-        Kind::MaxForwards => matches!(other, Kind::MaxForwards),
-        Kind::ContentLength => matches!(other, Kind::ContentLength),
-        _ => false,
-    }
+/// The fields of a head, with the place of the first of each kind and how many there are.
+#[derive(Drop)]
+pub struct Kinds<'a> {
+    pub fields: &'a [HeaderSpan],
+    pub firsts: [usize; Kind::COUNT],
+    pub counts: [usize; Kind::COUNT],
+    ghost tally: { IsTally fields.now firsts counts },
 }
 
-/// Whether the field is of this kind.
-#[tactic(auto, unfolding(crate::specs::Fields::is_of))]
-fn is_of(field: &HeaderSpan, kind: Kind) -> bool
-    ensures { result ≡ is_of kind field.now }
-{
-    is_kind(kind, field.kind)
-}
-
-/// The first field of this kind.
-#[tactic(auto, using(crate::proofs::Firsts::found_is))]
-pub fn first(b: &[u8], fields: &[HeaderSpan], kind: Kind) -> Option<HeaderSpan>
-    requires { All (IsField b.now) fields.now }
-    ensures value { result ≡ first kind fields.now }
-    ensures is { IfSome result (IsField b.now) }
-{
-    found(fields, kind)
-}
-
-/// The first of this kind in a list.
-fn found(fields: &[HeaderSpan], kind: Kind) -> Option<HeaderSpan>
-    ensures { result ≡ first kind fields.now }
-{
-    fields.iter().copied().find(|field| is_of(field, kind))
-}
-
-/// How many fields of this kind there are.
-fn count(fields: &[HeaderSpan], kind: Kind) -> usize
-    ensures value { result ≡ count kind fields.now }
-    ensures bound { result ≤ length fields.now }
-{
-    let mut count = 0;
-    for field in fields {
-        if is_of(field, kind) {
-            count += 1;
+impl<'a> Kinds<'a> {
+    /// Walks once over the fields.
+    pub fn of(fields: &'a [HeaderSpan]) -> Kinds<'a>
+        ensures { result.fields.now ≡ fields.now }
+    {
+        let mut firsts = [0; Kind::COUNT];
+        let mut counts = [0; Kind::COUNT];
+        for (place, field) in fields.iter().enumerate() {
+            let kind = field.kind.number();
+            if counts[kind] == 0 {
+                firsts[kind] = place;
+            }
+            counts[kind] += 1;
+        }
+        Kinds {
+            fields,
+            firsts,
+            counts,
         }
     }
-    count
-}
 
-/// Whether Via, From, To, Call-ID or CSeq is absent.
-#[tactic(auto, unfolding(crate::specs::Fields::is_missing))]
-pub fn is_missing(fields: &[HeaderSpan]) -> bool
-    ensures { result ≡ is_missing fields.now }
-{
-    count(fields, Kind::Via) == 0
-        || count(fields, Kind::From) == 0
-        || count(fields, Kind::To) == 0
-        || count(fields, Kind::CallId) == 0
-        || count(fields, Kind::CSeq) == 0
-}
+    /// The first field of this kind.
+    fn found(&self, kind: Kind) -> Option<HeaderSpan>
+        ensures { result ≡ first kind self.now.fields.now }
+    {
+        let number = kind.number();
+        if self.counts[number] == 0 {
+            return None;
+        }
+        self.fields.get(self.firsts[number]).copied()
+    }
 
-/// Whether From, To, Call-ID, CSeq, Max-Forwards or Content-Length stands twice.
-#[tactic(auto, unfolding(crate::specs::Fields::is_repeated))]
-pub fn is_repeated(fields: &[HeaderSpan]) -> bool
-    ensures { result ≡ is_repeated fields.now }
-{
-    1 < count(fields, Kind::From)
-        || 1 < count(fields, Kind::To)
-        || 1 < count(fields, Kind::CallId)
-        || 1 < count(fields, Kind::CSeq)
-        || 1 < count(fields, Kind::MaxForwards)
-        || 1 < count(fields, Kind::ContentLength)
+    /// The first field of this kind, which is a field of these bytes.
+    #[tactic(auto, using(crate::proofs::Firsts::found_is))]
+    pub fn first(&self, b: &[u8], kind: Kind) -> Option<HeaderSpan>
+        requires { All (IsField b.now) self.now.fields.now }
+        ensures value { result ≡ first kind self.now.fields.now }
+        ensures is { IfSome result (IsField b.now) }
+    {
+        self.found(kind)
+    }
+
+    /// How many fields of this kind there are.
+    pub fn count(&self, kind: Kind) -> usize
+        ensures { result ≡ count kind self.now.fields.now }
+    {
+        self.counts[kind.number()]
+    }
+
+    /// Whether Via, From, To, Call-ID or CSeq is absent.
+    #[tactic(auto, unfolding(crate::specs::Fields::is_missing))]
+    pub fn is_missing(&self) -> bool
+        ensures { result ≡ is_missing self.now.fields.now }
+    {
+        self.count(Kind::Via) == 0
+            || self.count(Kind::From) == 0
+            || self.count(Kind::To) == 0
+            || self.count(Kind::CallId) == 0
+            || self.count(Kind::CSeq) == 0
+    }
+
+    /// Whether From, To, Call-ID, CSeq, Max-Forwards or Content-Length stands twice.
+    #[tactic(auto, unfolding(crate::specs::Fields::is_repeated))]
+    pub fn is_repeated(&self) -> bool
+        ensures { result ≡ is_repeated self.now.fields.now }
+    {
+        1 < self.count(Kind::From)
+            || 1 < self.count(Kind::To)
+            || 1 < self.count(Kind::CallId)
+            || 1 < self.count(Kind::CSeq)
+            || 1 < self.count(Kind::MaxForwards)
+            || 1 < self.count(Kind::ContentLength)
+    }
 }

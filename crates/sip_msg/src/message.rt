@@ -1,17 +1,18 @@
 ghost use Rattle.std.specs.Prelude.{◌≡◌, ◌≤◌, ◌-◌, All, IfErr, IfNone, IfOk, IfSome, None, Ok, Some, length, take, true, false};
 ghost use Rattle.sip_scan.specs.Field.{IsField};
+ghost use Rattle.sip_scan.specs.Head.{in_room};
 ghost use Rattle.sip_msg.specs.Places.{PartsLie, LiesIn, IsComplete};
 ghost use Rattle.sip_msg.specs.Start.{IsStartBetween};
 ghost use Rattle.sip_msg.specs.StartGrammar.{IsStartAt};
 ghost use Rattle.sip_msg.specs.Table.{fault_of, first_row, later_rows, is_above, end_behind, HasParts, Reads};
 ghost use Rattle.sip_msg.specs.declared.message.Message.{Message};
 
-use crate::fields::{is_missing, is_repeated};
+use crate::fields::Kinds;
 use crate::start::start_at;
 use crate::values::values_of;
 use crate::{Span, Start};
-use sip_fields::{CSeq, NameAddr, Via};
-use sip_scan::{Head, ScanFault, scan, start_line};
+use sip_fields::{CSeq, Host, NameAddr, Rport, Via};
+use sip_scan::{Head, ScanFault, scan_behind, start_line};
 
 /// The most bytes that a message may have.
 pub(crate) const LONGEST: usize = 8192;
@@ -74,53 +75,52 @@ fn end_of(b: &[u8], body: usize, announced: Option<usize>) -> Option<usize>
     }
 }
 
-/// The message whose start line and head these are, or the first of the later faults.
+/// Fills in the message whose start line and head these are, or answers the first of the later faults.
 #[tactic(auto, using(crate::proofs::Rows::missing, crate::proofs::Rows::repeated, crate::proofs::Rows::bad_field, crate::proofs::Rows::short_body, crate::proofs::Rows::no_later))]
-fn message_behind(b: &[u8], start: Start, head: Head) -> Result<Message, MsgFault>
+fn parts_into(b: &[u8], start: Start, m: &mut Message) -> Result<(), MsgFault>
     requires start { IsStartBetween 0 (length b.now) start }
-    requires fields { All (IsField b.now) head.fields.items }
-    requires body { head.body ≤ length b.now }
-    ensures fault { IfErr result (λ f. first_row (later_rows b.now start head) ≡ Some f) }
-    ensures none { IfOk result (λ m. first_row (later_rows b.now start head) ≡ None) }
-    ensures head { IfOk result (λ m. m.head ≡ head) }
-    ensures start { IfOk result (λ m. m.start ≡ start) }
-    ensures parts { IfOk result (HasParts b.now) }
-    ensures lie { IfOk result (PartsLie b.now) }
-    ensures complete { IfOk result (λ m. IsComplete m.head.fields.items) }
+    requires fields { All (IsField b.now) m.old.head.fields.items }
+    requires body { m.old.head.body ≤ length b.now }
+    ensures fault { IfErr result (λ f. first_row (later_rows b.now start m.old.head) ≡ Some f) }
+    ensures none { IfOk result (λ _. first_row (later_rows b.now start m.old.head) ≡ None) }
+    ensures head { IfOk result (λ _. m.new.head ≡ m.old.head) }
+    ensures start { IfOk result (λ _. m.new.start ≡ start) }
+    ensures parts { IfOk result (λ _. HasParts b.now m.new) }
+    ensures lie { IfOk result (λ _. PartsLie b.now m.new) }
+    ensures complete { IfOk result (λ _. IsComplete m.new.head.fields.items) }
 {
-    if is_missing(&head.fields) {
+    let kinds = Kinds::of(&m.head.fields);
+    if kinds.is_missing() {
         return Err(MsgFault::Missing);
     }
-    if is_repeated(&head.fields) {
+    if kinds.is_repeated() {
         return Err(MsgFault::Repeated);
     }
-    let Some(values) = values_of(b, start, &head.fields) else {
+    let Some(values) = values_of(b, start, &kinds) else {
         return Err(MsgFault::BadField);
     };
-    let Some(end) = end_of(b, head.body, values.content_length) else {
+    let Some(end) = end_of(b, m.head.body, values.content_length) else {
         return Err(MsgFault::ShortBody);
     };
-    Ok(Message {
-        head,
-        start,
-        via: values.via,
-        from: values.from,
-        to: values.to,
-        call_id: values.call_id,
-        cseq: values.cseq,
-        max_forwards: values.max_forwards,
-        end,
-    })
+    m.start = start;
+    m.via = values.via;
+    m.from = values.from;
+    m.to = values.to;
+    m.call_id = values.call_id;
+    m.cseq = values.cseq;
+    m.max_forwards = values.max_forwards;
+    m.end = end;
+    Ok(())
 }
 
-/// The message, or the first fault.
+/// Reads the message into a room, or answers the first fault.
 #[tactic(auto, using(crate::proofs::Rows::too_long, crate::proofs::Rows::not_sip, crate::proofs::Rows::bad_start))]
-fn message_of(b: &[u8]) -> Result<Message, MsgFault>
-    ensures found { IfOk result (Reads b.now) }
+fn message_into(b: &[u8], m: &mut Message) -> Result<(), MsgFault>
+    ensures found { IfOk result (λ _. Reads b.now m.new) }
     ensures fault { IfErr result (λ f. fault_of b.now ≡ Some f) }
-    ensures line { IfOk result (λ m. IsStartAt (take m.head.start.to b.now) m.head.start.from m.start) }
-    ensures places { IfOk result (LiesIn b.now) }
-    ensures complete { IfOk result (λ m. IsComplete m.head.fields.items) }
+    ensures line { IfOk result (λ _. IsStartAt (take m.new.head.start.to b.now) m.new.head.start.from m.new.start) }
+    ensures places { IfOk result (λ _. LiesIn b.now m.new) }
+    ensures complete { IfOk result (λ _. IsComplete m.new.head.fields.items) }
 {
     if LONGEST < b.len() {
         return Err(MsgFault::TooLong);
@@ -131,8 +131,8 @@ fn message_of(b: &[u8]) -> Result<Message, MsgFault>
     let Some(start) = start_at(b, line) else {
         return Err(MsgFault::BadStartLine);
     };
-    match scan(b) {
-        Ok(head) => message_behind(b, start, head),
+    match scan_behind(b, line, &mut m.head) {
+        Ok(()) => parts_into(b, start, m),
         Err(ScanFault::NotSip) => Err(MsgFault::NotSip),
         Err(ScanFault::BadHeader) => Err(MsgFault::BadHeader),
         Err(ScanFault::TooManyHeaders) => Err(MsgFault::TooManyHeaders),
@@ -140,8 +140,66 @@ fn message_of(b: &[u8]) -> Result<Message, MsgFault>
 }
 
 impl Message {
-    /// The request or response that the datagram is, or the first fault, in this order: TooLong, NotSip, BadStartLine,
-    /// BadHeader, TooManyHeaders, Missing, Repeated, BadField, ShortBody.
+    /// A room to read into, which is no message yet. It takes a while to make, and any number of datagrams can be read
+    /// into it, one after the other.
+    pub fn room() -> Message {
+        let nothing = Span { from: 0, to: 0 };
+        let name = NameAddr {
+            uri: nothing,
+            tag: None,
+            whole: nothing,
+            next: None,
+        };
+        Message {
+            head: Head::new(),
+            start: Start::Request {
+                method: nothing,
+                uri: nothing,
+            },
+            via: Via {
+                host: Host::V4(0),
+                host_at: nothing,
+                port: None,
+                branch: None,
+                rport: Rport::Absent,
+                received: None,
+                whole: nothing,
+                next: None,
+            },
+            from: name,
+            to: name,
+            call_id: nothing,
+            cseq: CSeq {
+                number: 0,
+                method: nothing,
+            },
+            max_forwards: None,
+            end: 0,
+        }
+    }
+
+    /// Reads the request or response that the datagram is into a room, whatever it held before, or answers the first
+    /// fault, in this order: TooLong, NotSip, BadStartLine, BadHeader, TooManyHeaders, Missing, Repeated, BadField,
+    /// ShortBody. On a fault the room holds anything.
+    pub fn read_into(b: &[u8], room: &mut Message) -> Result<(), MsgFault>
+        // What is read is the message that the datagram is.
+        ensures found { IfOk result (λ _. Reads b.now room.new) }
+        // A message that the datagram is is read, and nothing else can be.
+        ensures only { (m : Message) → Reads b.now m → in_room result room.new ≡ Ok m }
+        // A fault is the first one that holds.
+        ensures fault { IfErr result (λ f. fault_of b.now ≡ Some f) }
+        // Its start line is spelled by the grammar, each span being the place of its part.
+        ensures line { IfOk result (λ _. IsStartAt (take room.new.head.start.to b.now) room.new.head.start.from room.new.start) }
+        // Each span lies in the value of its field, and the message ends behind its head and within the datagram.
+        ensures places { IfOk result (λ _. LiesIn b.now room.new) }
+        // There is a Via, and From, To, Call-ID and CSeq stand once.
+        ensures complete { IfOk result (λ _. IsComplete room.new.head.fields.items) }
+    {
+        message_into(b, room)
+    }
+
+    /// The request or response that the datagram is, or the first fault, as [`Message::read_into`] tells it, which
+    /// moves no message.
     pub fn read(b: &[u8]) -> Result<Message, MsgFault>
         // What is read is the message that the datagram is.
         ensures found { IfOk result (Reads b.now) }
@@ -156,6 +214,10 @@ impl Message {
         // There is a Via, and From, To, Call-ID and CSeq stand once.
         ensures complete { IfOk result (λ m. IsComplete m.head.fields.items) }
     {
-        message_of(b)
+        let mut room = Message::room();
+        match Message::read_into(b, &mut room) {
+            Ok(()) => Ok(room),
+            Err(fault) => Err(fault),
+        }
     }
 }

@@ -1,8 +1,10 @@
 //! Datagrams worked out by hand.
 ghost use Rattle.std.specs.Prelude.{◌≤◌, length};
 
+use crate::fields::Kinds;
 use crate::{Message, MsgFault, Start, read_basis};
 use sip_fields::Host;
+use sip_scan::{Kind, scan};
 use std::process::Abort;
 
 /// The datagram is a message that ends here.
@@ -474,6 +476,72 @@ fn fault_of(count: usize, last: &[u8]) -> Option<MsgFault>
     let end = 25 + 4 * count;
     text[end..end + last.len()].copy_from_slice(last);
     Message::read(&text[..end + last.len()]).err()
+}
+
+/// Route, Record-Route and Contact are kinds like the others, and all fields of other names are one kind.
+#[test]
+fn fields_are_found_by_their_kinds(rt: HostRuntime) {
+    let text: &'static [u8] =
+        b"SIP/2.0 200\r\nX:1\r\nContact:2\r\nRecord-Route:3\r\nRoute:4\r\nm:5\r\nY:6\r\nt:7\r\nRoute:8\r\n\r\n";
+    let rows: [(Kind, usize, Option<&'static [u8]>); 6] = [
+        (Kind::Route, 2, Some(b"Route:4\r\n")),
+        (Kind::RecordRoute, 1, Some(b"Record-Route:3\r\n")),
+        (Kind::Contact, 2, Some(b"Contact:2\r\n")),
+        (Kind::To, 1, Some(b"t:7\r\n")),
+        (Kind::Other, 2, Some(b"X:1\r\n")),
+        (Kind::Via, 0, None),
+    ];
+    match scan(text) {
+        Ok(head) => {
+            let kinds = Kinds::of(&head.fields);
+            for (kind, number, whole) in rows {
+                assert_eq!(rt; kinds.count(kind), number);
+                let found = kinds.first(text, kind);
+                assert!(rt;
+                    found.and_then(|field| text.get(field.whole.from..field.whole.to)) == whole
+                );
+            }
+        }
+        Err(_) => assert!(rt; false),
+    }
+}
+
+/// Whatever a room held before: another message, or a part of one that doesn't read.
+#[test]
+fn a_room_is_used_again(rt: HostRuntime) {
+    let mut room = Message::room();
+    let rows: [(&'static [u8], Result<(), MsgFault>, usize, &'static [u8]); 4] = [
+        (
+            b"OPTIONS sip:b@h SIP/2.0\r\nv:SIP/2.0/UDP h;branch=z9hG4bKm\r\nf:<sip:a@h>;tag=1\r\nt:sip:b@h;tag=2\r\ni:m\r\nCSeq:1 OPTIONS\r\nMax-Forwards:9\r\n\r\n",
+            Ok(()),
+            6,
+            b"m",
+        ),
+        (
+            b"OPTIONS sip:b@h SIP/2.0\r\nv:SIP/2.0/UDP h;branch=z9hG4bKm\r\nf:<sip:a@h>;tag=1\r\ni:m\r\n\r\n",
+            Err(MsgFault::Missing),
+            0,
+            b"",
+        ),
+        (
+            b"SIP/2.0 200 OK\r\nv:SIP/2.0/UDP h;branch=z9hG4bKm\r\nf:<sip:a@h>;tag=1\r\nt:sip:b@h\r\ni:other\r\nCSeq:1 BYE\r\n\r\n",
+            Ok(()),
+            5,
+            b"other",
+        ),
+        (b"\r\n\r\n", Err(MsgFault::NotSip), 0, b""),
+    ];
+    for (text, end, fields, call_id) in rows {
+        let told = Message::read_into(text, &mut room);
+        assert!(rt; told == end);
+        if told.is_ok() {
+            assert_eq!(rt; room.head.fields.len(), fields);
+            assert!(rt; text.get(room.call_id.from..room.call_id.to) == Some(call_id));
+            assert_eq!(rt; room.max_forwards.is_some(), fields == 6);
+            assert_eq!(rt; room.to.tag.is_some(), fields == 6);
+            assert_eq!(rt; room.end, text.len());
+        }
+    }
 }
 
 /// 128 fields are read, 129 are too many; a bad field goes before, and an absent one behind.

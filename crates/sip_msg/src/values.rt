@@ -11,7 +11,7 @@ ghost use Rattle.sip_msg.specs.Places.{InFirst, ValuesLie};
 ghost use Rattle.sip_msg.specs.Start.{IsStartBetween};
 ghost use Rattle.sip_msg.specs.Values.{call_id_at, whole_number, hops_at, via_of, name_addr_of, call_id_of, cseq_of, max_forwards_of, content_length_of, next_via, next_route, next_value, list_reads, has_cookie, fits, values_of, HasValues};
 
-use crate::fields::first;
+use crate::fields::Kinds;
 use crate::{Span, Start};
 use sip_fields::{CSeq, NameAddr, Via, read_cseq, read_name_addr, read_route, read_via};
 use sip_scan::{HeaderSpan, Kind};
@@ -78,24 +78,24 @@ fn hops_at(b: &[u8], at: Span) -> Option<u8>
 
 /// The first value of the first Via.
 #[tactic(auto, unfolding(crate::specs::Values::via_of))]
-pub fn via_of(b: &[u8], fields: &[HeaderSpan]) -> Option<Via>
-    requires { All (IsField b.now) fields.now }
-    ensures value { result ≡ via_of b.now fields.now }
+pub fn via_of(b: &[u8], kinds: &Kinds) -> Option<Via>
+    requires { All (IsField b.now) kinds.now.fields.now }
+    ensures value { result ≡ via_of b.now kinds.now.fields.now }
     ensures branch { IfSome result (λ via. IfSome via.branch (IsWithin b.now)) }
-    ensures lies { IfSome result (λ via. InFirst kind.Via fields.now (λ i j. IsViaBetween i j via)) }
+    ensures lies { IfSome result (λ via. InFirst kind.Via kinds.now.fields.now (λ i j. IsViaBetween i j via)) }
 {
-    let field = first(b, fields, Kind::Via)?;
+    let field = kinds.first(b, Kind::Via)?;
     read_via(b, field.value).ok()
 }
 
 /// The value of the field From or To, if it has one alone.
 #[tactic(auto, unfolding(crate::specs::Values::name_addr_of))]
-fn name_addr_of(b: &[u8], fields: &[HeaderSpan], kind: Kind) -> Option<NameAddr>
-    requires { All (IsField b.now) fields.now }
-    ensures value { result ≡ name_addr_of kind b.now fields.now }
-    ensures lies { IfSome result (λ n. InFirst kind fields.now (λ i j. IsNameAddrBetween i j n)) }
+fn name_addr_of(b: &[u8], kinds: &Kinds, kind: Kind) -> Option<NameAddr>
+    requires { All (IsField b.now) kinds.now.fields.now }
+    ensures value { result ≡ name_addr_of kind b.now kinds.now.fields.now }
+    ensures lies { IfSome result (λ n. InFirst kind kinds.now.fields.now (λ i j. IsNameAddrBetween i j n)) }
 {
-    let field = first(b, fields, kind)?;
+    let field = kinds.first(b, kind)?;
     let value = read_name_addr(b, field.value).ok()?;
     if value.next.is_some() {
         return None;
@@ -105,34 +105,34 @@ fn name_addr_of(b: &[u8], fields: &[HeaderSpan], kind: Kind) -> Option<NameAddr>
 
 /// The Call-ID.
 #[tactic(auto, unfolding(crate::specs::Values::call_id_of))]
-fn call_id_of(b: &[u8], fields: &[HeaderSpan]) -> Option<Span>
-    requires { All (IsField b.now) fields.now }
-    ensures value { result ≡ call_id_of b.now fields.now }
-    ensures lies { IfSome result (λ c. InFirst kind.CallId fields.now (λ i j. IsBetween i j c)) }
+fn call_id_of(b: &[u8], kinds: &Kinds) -> Option<Span>
+    requires { All (IsField b.now) kinds.now.fields.now }
+    ensures value { result ≡ call_id_of b.now kinds.now.fields.now }
+    ensures lies { IfSome result (λ c. InFirst kind.CallId kinds.now.fields.now (λ i j. IsBetween i j c)) }
 {
-    let field = first(b, fields, Kind::CallId)?;
+    let field = kinds.first(b, Kind::CallId)?;
     call_id_at(b, field.value)
 }
 
 /// The CSeq.
 #[tactic(auto, unfolding(crate::specs::Values::cseq_of))]
-fn cseq_of(b: &[u8], fields: &[HeaderSpan]) -> Option<CSeq>
-    requires { All (IsField b.now) fields.now }
-    ensures value { result ≡ cseq_of b.now fields.now }
+fn cseq_of(b: &[u8], kinds: &Kinds) -> Option<CSeq>
+    requires { All (IsField b.now) kinds.now.fields.now }
+    ensures value { result ≡ cseq_of b.now kinds.now.fields.now }
     ensures within { IfSome result (λ c. IsWithin b.now c.method) }
-    ensures lies { IfSome result (λ c. InFirst kind.CSeq fields.now (λ i j. IsCSeqBetween i j c)) }
+    ensures lies { IfSome result (λ c. InFirst kind.CSeq kinds.now.fields.now (λ i j. IsCSeqBetween i j c)) }
 {
-    let field = first(b, fields, Kind::CSeq)?;
+    let field = kinds.first(b, Kind::CSeq)?;
     read_cseq(b, field.value).ok()
 }
 
 /// The number of Max-Forwards, if it stands there; or None where it doesn't read.
 #[tactic(auto, unfolding(crate::specs::Values::max_forwards_of))]
-fn max_forwards_of(b: &[u8], fields: &[HeaderSpan]) -> Option<Option<u8>>
-    requires { All (IsField b.now) fields.now }
-    ensures { result ≡ max_forwards_of b.now fields.now }
+fn max_forwards_of(b: &[u8], kinds: &Kinds) -> Option<Option<u8>>
+    requires { All (IsField b.now) kinds.now.fields.now }
+    ensures { result ≡ max_forwards_of b.now kinds.now.fields.now }
 {
-    match first(b, fields, Kind::MaxForwards) {
+    match kinds.first(b, Kind::MaxForwards) {
         Some(field) => Some(Some(hops_at(b, field.value)?)),
         None => Some(None),
     }
@@ -140,11 +140,11 @@ fn max_forwards_of(b: &[u8], fields: &[HeaderSpan]) -> Option<Option<u8>>
 
 /// The number of Content-Length, if it stands there; or None where it doesn't read.
 #[tactic(auto, unfolding(crate::specs::Values::content_length_of))]
-fn content_length_of(b: &[u8], fields: &[HeaderSpan]) -> Option<Option<usize>>
-    requires { All (IsField b.now) fields.now }
-    ensures { result ≡ content_length_of b.now fields.now }
+fn content_length_of(b: &[u8], kinds: &Kinds) -> Option<Option<usize>>
+    requires { All (IsField b.now) kinds.now.fields.now }
+    ensures { result ≡ content_length_of b.now kinds.now.fields.now }
 {
-    match first(b, fields, Kind::ContentLength) {
+    match kinds.first(b, Kind::ContentLength) {
         Some(field) => Some(Some(whole_number(b, field.value, 10)? as usize)),
         None => Some(None),
     }
@@ -245,21 +245,21 @@ fn fits(b: &[u8], start: Start, cseq: CSeq, via: Via) -> bool
 
 /// The values of the fields, if each one reads and they fit the start line.
 #[tactic(auto, unfolding(crate::specs::Values::values_of))]
-pub fn values_of(b: &[u8], start: Start, fields: &[HeaderSpan]) -> Option<Values>
+pub fn values_of(b: &[u8], start: Start, kinds: &Kinds) -> Option<Values>
     requires start { IsStartBetween 0 (length b.now) start }
-    requires fields { All (IsField b.now) fields.now }
-    ensures value { result ≡ values_of b.now start fields.now }
-    ensures parts { IfSome result (HasValues b.now fields.now) }
-    ensures lie { IfSome result (ValuesLie fields.now) }
+    requires fields { All (IsField b.now) kinds.now.fields.now }
+    ensures value { result ≡ values_of b.now start kinds.now.fields.now }
+    ensures parts { IfSome result (HasValues b.now kinds.now.fields.now) }
+    ensures lie { IfSome result (ValuesLie kinds.now.fields.now) }
 {
-    let via = via_of(b, fields)?;
-    let from = name_addr_of(b, fields, Kind::From)?;
-    let to = name_addr_of(b, fields, Kind::To)?;
-    let call_id = call_id_of(b, fields)?;
-    let cseq = cseq_of(b, fields)?;
-    let max_forwards = max_forwards_of(b, fields)?;
-    let content_length = content_length_of(b, fields)?;
-    if !lists_read(b, fields) || !fits(b, start, cseq, via) {
+    let via = via_of(b, kinds)?;
+    let from = name_addr_of(b, kinds, Kind::From)?;
+    let to = name_addr_of(b, kinds, Kind::To)?;
+    let call_id = call_id_of(b, kinds)?;
+    let cseq = cseq_of(b, kinds)?;
+    let max_forwards = max_forwards_of(b, kinds)?;
+    let content_length = content_length_of(b, kinds)?;
+    if !lists_read(b, kinds.fields) || !fits(b, start, cseq, via) {
         return None;
     }
     Some(Values {

@@ -9,3 +9,4 @@ pub mod FieldTakes
 pub mod HeadTakes
 pub mod Parts
 pub mod Lies
+pub mod Rooms

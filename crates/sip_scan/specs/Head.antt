@@ -2,7 +2,7 @@
 use Rattle.std.specs.Prelude.{◌≡◌, ℕ, ◌+◌, ◌-◌, ◌≤◌, All, List, [], ◌∷◌, length, Option, Some, None, Result, Ok, Err, nat_lt, if◌then◌else◌}
 use Rattle.sip_words.specs.declared.Span.{Span}
 use Rattle.sip_words.specs.Words.{◌>>=◌}
-use Rattle.sip_words.specs.Spans.{IsWithin}
+use Rattle.sip_words.specs.Spans.{span, IsWithin}
 use Rattle.sip_scan.specs.declared.field.HeaderSpan.{HeaderSpan}
 use Rattle.sip_scan.specs.declared.Head.{Head}
 use Rattle.sip_scan.specs.declared.ScanFault.{ScanFault}
@@ -13,6 +13,15 @@ use Rattle.sip_scan.specs.Field.{fields_at, IsField}
 -- a head with these parts
 abbrev pub head : Span → List HeaderSpan → ℕ → Head
 head start fields body = record { start = start; fields = record { items = fields }; body = body }
+
+-- a head without fields, as a room to read into is made
+abbrev pub no_head : Head
+no_head = head (span 0 0) [] 0
+
+-- what a call that reads into a room tells: what the room holds, or the fault
+abbrev pub in_room : {U H E : Type 0} → Result U E → H → Result H E
+in_room (Ok u) h = Ok h
+in_room (Err e) h = Err e
 
 abbrev pub at_most_128 : Head → Result Head ScanFault
 at_most_128 h = if nat_lt 128 (length h.fields.items) then Err TooManyHeaders else Ok h

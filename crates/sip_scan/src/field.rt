@@ -24,6 +24,40 @@ pub enum Kind {
     Other,
 }
 
+impl Kind {
+    ghost use Rattle.sip_scan.specs.Field.{kind_number, is_same_kind};
+
+    /// How many kinds there are.
+    pub const COUNT: usize = 11;
+
+    /// The place of this kind in a table of all kinds.
+    pub fn number(self) -> usize
+        ensures value { result ≡ kind_number self }
+        ensures below { result < Self.COUNT }
+    {
+        match self {
+            Kind::Via => 0,
+            Kind::From => 1,
+            Kind::To => 2,
+            Kind::CallId => 3,
+            Kind::CSeq => 4,
+            Kind::MaxForwards => 5,
+            Kind::Route => 6,
+            Kind::RecordRoute => 7,
+            Kind::Contact => 8,
+            Kind::ContentLength => 9,
+            Kind::Other => 10,
+        }
+    }
+
+    /// Whether these are one kind.
+    pub fn is_same(self, other: Kind) -> bool
+        ensures { result ≡ is_same_kind self other }
+    {
+        self == other
+    }
+}
+
 /// A header field, as spans of the datagram.
 #[derive(Clone, Copy, Debug, Default, PartialEq, Eq)]
 pub struct HeaderSpan {

@@ -4,7 +4,9 @@
 //! lines that begin with SP or HTAB continuing the one before, and the head ends with an empty line. Nothing is
 //! unfolded or copied: a field is told by the spans of its name, its value and its whole.
 //!
-//! - [`scan`] reads the whole head. Its faults are tried in the order in which [`ScanFault`] lists them.
+//! - [`scan_into`] reads the whole head into a room that the caller keeps. Its faults are tried in the order in which
+//!   [`ScanFault`] lists them. [`scan`] answers the head itself, which is 7 KB that are moved.
+//! - [`scan_behind`] is the same for a caller that has the start line already.
 //! - [`start_line`] reads the start line alone, for a caller that judges it before the fields are looked at.
 //!
 //! Nothing here takes memory.
@@ -12,8 +14,10 @@
 
 ghost use Rattle.std.specs.Prelude.{◌≡◌, ◌≤◌, ◌<◌, ◌+◌, ◌∷◌, ◌++◌, [], List, ℕ, length, take, IfSome, IfNone, IfOk, Some, None, Ok, Err, All};
 ghost use Rattle.sip_scan.specs.declared.field.HeaderSpan.{HeaderSpan};
+ghost use Rattle.sip_words.specs.Spans.{IsWithin};
+ghost use Rattle.sip_scan.specs.Lines.{start_line};
 ghost use Rattle.sip_scan.specs.Field.{fields_at, IsField};
-ghost use Rattle.sip_scan.specs.Head.{at_most_128, scanned, LiesIn, LieFrom};
+ghost use Rattle.sip_scan.specs.Head.{at_most_128, in_room, scanned, LiesIn, LieFrom};
 ghost use Rattle.sip_scan.specs.Grammar.{MessageTree, message, IsMessageTree, head_place};
 
 mod field;
@@ -52,7 +56,23 @@ pub enum ScanFault {
     TooManyHeaders,
 }
 
-/// The head of the datagram, or the first fault.
+impl Head {
+    ghost use Rattle.sip_scan.specs.Head.{no_head};
+
+    /// A room to scan into: a head without fields. It takes a while to make, and any number of datagrams can be
+    /// scanned into it, one after the other.
+    pub fn new() -> Head
+        ensures { result ≡ no_head }
+    {
+        Head {
+            start: Span { from: 0, to: 0 },
+            fields: ArrayVec::new(),
+            body: 0,
+        }
+    }
+}
+
+/// The head of the datagram, or the first fault. [`scan_into`] does the same without moving the head.
 pub fn scan(b: &[u8]) -> Result<Head, ScanFault>
     // What is read is spelled by the grammar, each span being the place of its part.
     ensures found { IfOk result (λ h. (t : MessageTree) × IsMessageTree t × (b.now ≡ message t) × (h ≡ head_place t)) }
@@ -65,55 +85,79 @@ pub fn scan(b: &[u8]) -> Result<Head, ScanFault>
     // The parts stand in order within the datagram.
     ensures places { IfOk result (LiesIn b.now) }
 {
+    let mut head = Head::new();
+    match scan_into(b, &mut head) {
+        Ok(()) => Ok(head),
+        Err(fault) => Err(fault),
+    }
+}
+
+/// Reads the head of the datagram into a room, whatever it held before. On a fault, which is the first one, the room
+/// holds anything.
+pub fn scan_into(b: &[u8], head: &mut Head) -> Result<(), ScanFault>
+    // What is read is spelled by the grammar, each span being the place of its part.
+    ensures found { IfOk result (λ _. (t : MessageTree) × IsMessageTree t × (b.now ≡ message t) × (head.new ≡ head_place t)) }
+    // So is what has too many fields.
+    ensures many { result ≡ Err ScanFault.TooManyHeaders → (t : MessageTree) × IsMessageTree t × (b.now ≡ message t) × (128 < length t.fields) }
+    // What the grammar spells is read, or has too many fields, and nothing else can be.
+    ensures only { (t : MessageTree) → IsMessageTree t → b.now ≡ message t → in_room result head.new ≡ at_most_128 (head_place t) }
+    // The same as a function, with the faults in their order.
+    ensures exact { in_room result head.new ≡ scanned b.now }
+    // The parts stand in order within the datagram.
+    ensures places { IfOk result (λ _. LiesIn b.now head.new) }
+{
     let Some(start) = start_line(b) else {
         return Err(ScanFault::NotSip);
     };
+    scan_behind(b, start, head)
+}
+
+/// The same for a datagram whose start line was found.
+pub fn scan_behind(b: &[u8], start: Span, head: &mut Head) -> Result<(), ScanFault>
+    requires line { start_line b.now ≡ Some start }
+    requires within { IsWithin b.now start }
+    ensures exact { in_room result head.new ≡ scanned b.now }
+    ensures places { IfOk result (λ _. LiesIn b.now head.new) }
+{
     let Some(end) = line_end(b, start.from) else {
         return Err(ScanFault::BadHeader);
     };
-    let Some(fields) = fields_at(b, end + 2) else {
+    let Some(fields) = fields_at(b, end + 2, &mut head.fields) else {
         return Err(ScanFault::BadHeader);
     };
     if 128 < fields.count {
         return Err(ScanFault::TooManyHeaders);
     }
-    Ok(Head {
-        start,
-        fields: fields.first,
-        body: fields.end + 2,
-    })
+    head.start = start;
+    head.body = fields.end + 2;
+    Ok(())
 }
 
-/// The first 128 fields, how many there are, and the place of the empty line.
-#[derive(Drop)]
+/// How many fields there are, and the place of the empty line.
+#[derive(Clone, Copy)]
 struct Fields {
-    first: ArrayVec<HeaderSpan, 128>,
     count: usize,
     end: usize,
 }
 
-/// The fields from `from` on.
-fn fields_at(text: &[u8], from: usize) -> Option<Fields>
+/// Puts the first 128 fields from `from` on into this list, in the place of those that it held.
+fn fields_at(text: &[u8], from: usize, first: &mut ArrayVec<HeaderSpan, 128>) -> Option<Fields>
     requires { from ≤ length text.now }
     ensures none { IfNone result (fields_at text.now from ≡ None) }
-    ensures some { IfSome result (λ f. (all : List HeaderSpan) × (fields_at text.now from ≡ Some (all, f.end)) × (f.first.items ≡ take 128 all) × (f.count ≡ length all) × LieFrom from all f.end) }
+    ensures some { IfSome result (λ f. (all : List HeaderSpan) × (fields_at text.now from ≡ Some (all, f.end)) × (first.new.items ≡ take 128 all) × (f.count ≡ length all) × LieFrom from all f.end) }
     ensures bounds { IfSome result (λ f. (from ≤ f.end) × (f.end + 2 ≤ length text.now)) }
-    ensures each { IfSome result (λ f. All (IsField text.now) f.first.items) }
+    ensures each { IfSome result (λ f. All (IsField text.now) first.new.items) }
 {
-    let mut first = ArrayVec::new();
+    first.clear();
     let mut count = 0;
     let mut at = from;
     while !is_crlf(text, at) {
         let field = field_at(text, at)?;
-        keep(&mut first, field);
+        keep(first, field);
         count += 1;
         at = field.whole.to;
     }
-    Some(Fields {
-        first,
-        count,
-        end: at,
-    })
+    Some(Fields { count, end: at })
 }
 
 /// Adds a field where there is room.

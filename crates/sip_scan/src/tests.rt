@@ -1,7 +1,7 @@
 //! Heads worked out by hand.
 ghost use Rattle.std.specs.Prelude.{◌≤◌, length};
 
-use crate::{Kind, ScanFault, Span, full_name, scan, start_line};
+use crate::{Head, Kind, ScanFault, Span, full_name, scan, scan_into, start_line};
 use std::process::Abort;
 
 /// The datagram has these fields, each told by kind, name and value, and this body.
@@ -66,6 +66,31 @@ fn heads(rt: HostRuntime) {
         &[(Kind::To, b"To", b"\r\n ")],
         b"",
     );
+}
+
+/// Whatever a room held before: a longer head, or a part of one that doesn't read.
+#[test]
+fn a_room_is_used_again(rt: HostRuntime) {
+    let mut head = Head::new();
+    let rows: [(&[u8], Result<(), ScanFault>, usize, usize); 4] = [
+        (b"SIP/2.0 200\r\nVia:\r\nTo:\r\n\r\n", Ok(()), 2, 26),
+        (
+            b"SIP/2.0 200\r\nVia:\r\nTo:\r\nFrom:\r\nX",
+            Err(ScanFault::BadHeader),
+            0,
+            0,
+        ),
+        (b"SIP/2.0 200\r\nContact:\r\n\r\n", Ok(()), 1, 25),
+        (b"\r\nSIP/2.0 200\r\n\r\n", Ok(()), 0, 17),
+    ];
+    for (text, end, fields, body) in rows {
+        let told = scan_into(text, &mut head);
+        assert!(rt; told == end);
+        if told.is_ok() {
+            assert_eq!(rt; head.fields.len(), fields);
+            assert_eq!(rt; head.body, body);
+        }
+    }
 }
 
 #[test]
