@@ -23,7 +23,8 @@ use Rattle.sip_build.specs.Relayed.{without_top_via, relayed_text}
 use Rattle.sip_build.specs.Forwarded.{replaced, via_line, with_hops, forwarding, forwarded_text}
 use Rattle.sip_build.specs.declared.stamp.Stamp.{Stamp}
 use Rattle.sip_build.specs.declared.forwarding.Hops.{Hops}
-use Rattle.sip_build.specs.Writing.{SameEdits, edits_of_stamp, edits_of_hops}
+use Rattle.msg_edits.specs.Writing.{SameEdits}
+use Rattle.sip_build.specs.Writing.{edits_of_stamp, edits_of_hops}
 
 pub same : (xs : List Edit) → SameEdits xs xs
 same xs = record { inserts = λ i. refl; cuts = λ i. refl }
