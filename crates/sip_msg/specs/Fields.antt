@@ -1,28 +1,17 @@
 -- The header fields by their kinds.
-use Rattle.std.specs.Prelude.{ℕ, ◌==◌, Bool, true, false, List, Option, nat_lt}
+use Rattle.std.specs.Prelude.{ℕ, ◌==◌, Bool, List, Option, nat_lt}
 use Rattle.std.specs.List.{find, count_by}
 use Rattle.sip_words.specs.Bytes.{◌or◌}
+use Rattle.sip_scan.specs.Field.{is_same_kind}
 use Rattle.sip_scan.specs.declared.field.HeaderSpan.{HeaderSpan}
 use Rattle.sip_scan.specs.declared.field.Kind.{Kind}
 use Rattle.sip_scan.specs.declared.field.Kind.TheVariants as kind
 
--- one kind; a field of any other name is of none
-abbrev pub is_kind : Kind → Kind → Bool
-is_kind k other = elim k [
-  | kind.Via ↦ elim other [ kind.Via ↦ true | _ ↦ false ]
-  | kind.From ↦ elim other [ kind.From ↦ true | _ ↦ false ]
-  | kind.To ↦ elim other [ kind.To ↦ true | _ ↦ false ]
-  | kind.CallId ↦ elim other [ kind.CallId ↦ true | _ ↦ false ]
-  | kind.CSeq ↦ elim other [ kind.CSeq ↦ true | _ ↦ false ]
-  | kind.MaxForwards ↦ elim other [ kind.MaxForwards ↦ true | _ ↦ false ]
-  | kind.ContentLength ↦ elim other [ kind.ContentLength ↦ true | _ ↦ false ]
-  | _ ↦ false
-]
-
 unfoldable pub is_of : Kind → HeaderSpan → Bool
-is_of k f = is_kind k f.kind
+is_of k f = is_same_kind k f.kind
 
--- the first field of a kind, and how many there are
+-- the first field of a kind, and how many there are; the fields of every other name are one kind, so `first Other` is
+-- the first of them all
 abbrev pub first : Kind → List HeaderSpan → Option HeaderSpan
 first k fields = find (is_of k) fields
 

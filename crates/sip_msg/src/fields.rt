@@ -1,32 +1,16 @@
 //! Header fields by their kinds.
 ghost use Rattle.std.specs.Prelude.{◌≡◌, All, IfSome, List, ℕ, length, ◌≤◌};
 ghost use Rattle.sip_scan.specs.Field.{IsField};
-ghost use Rattle.sip_msg.specs.Fields.{is_kind, is_of, first, count, is_missing, is_repeated};
+ghost use Rattle.sip_msg.specs.Fields.{is_of, first, count, is_missing, is_repeated};
 
 use sip_scan::{HeaderSpan, Kind};
-
-/// Whether these are one kind. A field of any other name is of none.
-fn is_kind(kind: Kind, other: Kind) -> bool
-    ensures { result ≡ is_kind kind other }
-{
-    match kind {
-        Kind::Via => matches!(other, Kind::Via),
-        Kind::From => matches!(other, Kind::From),
-        Kind::To => matches!(other, Kind::To),
-        Kind::CallId => matches!(other, Kind::CallId),
-        Kind::CSeq => matches!(other, Kind::CSeq),
-        Kind::MaxForwards => matches!(other, Kind::MaxForwards),
-        Kind::ContentLength => matches!(other, Kind::ContentLength),
-        _ => false,
-    }
-}
 
 /// Whether the field is of this kind.
 #[tactic(auto, unfolding(crate::specs::Fields::is_of))]
 fn is_of(field: &HeaderSpan, kind: Kind) -> bool
     ensures { result ≡ is_of kind field.now }
 {
-    is_kind(kind, field.kind)
+    kind.is_same(field.kind)
 }
 
 /// The first field of this kind.
@@ -47,7 +31,7 @@ fn found(fields: &[HeaderSpan], kind: Kind) -> Option<HeaderSpan>
 }
 
 /// How many fields of this kind there are.
-fn count(fields: &[HeaderSpan], kind: Kind) -> usize
+pub fn count(fields: &[HeaderSpan], kind: Kind) -> usize
     ensures value { result ≡ count kind fields.now }
     ensures bound { result ≤ length fields.now }
 {

@@ -1,8 +1,10 @@
 //! Datagrams worked out by hand.
 ghost use Rattle.std.specs.Prelude.{◌≤◌, length};
 
+use crate::fields::{count, first};
 use crate::{Message, MsgFault, Start, read_basis};
 use sip_fields::Host;
+use sip_scan::{Kind, scan};
 use std::process::Abort;
 
 /// The datagram is a message that ends here.
@@ -474,6 +476,33 @@ fn fault_of(count: usize, last: &[u8]) -> Option<MsgFault>
     let end = 25 + 4 * count;
     text[end..end + last.len()].copy_from_slice(last);
     Message::read(&text[..end + last.len()]).err()
+}
+
+/// Route, Record-Route and Contact are kinds like the others, and all fields of other names are one kind.
+#[test]
+fn fields_are_found_by_their_kinds(rt: HostRuntime) {
+    let text: &'static [u8] =
+        b"SIP/2.0 200\r\nX:1\r\nContact:2\r\nRecord-Route:3\r\nRoute:4\r\nm:5\r\nY:6\r\nt:7\r\nRoute:8\r\n\r\n";
+    let rows: [(Kind, usize, Option<&'static [u8]>); 6] = [
+        (Kind::Route, 2, Some(b"Route:4\r\n")),
+        (Kind::RecordRoute, 1, Some(b"Record-Route:3\r\n")),
+        (Kind::Contact, 2, Some(b"Contact:2\r\n")),
+        (Kind::To, 1, Some(b"t:7\r\n")),
+        (Kind::Other, 2, Some(b"X:1\r\n")),
+        (Kind::Via, 0, None),
+    ];
+    match scan(text) {
+        Ok(head) => {
+            for (kind, number, whole) in rows {
+                assert_eq!(rt; count(&head.fields, kind), number);
+                let found = first(text, &head.fields, kind);
+                assert!(rt;
+                    found.and_then(|field| text.get(field.whole.from..field.whole.to)) == whole
+                );
+            }
+        }
+        Err(_) => assert!(rt; false),
+    }
 }
 
 /// 128 fields are read, 129 are too many; a bad field goes before, and an absent one behind.

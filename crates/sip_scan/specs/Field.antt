@@ -1,8 +1,7 @@
 -- Header fields, as functions of a text and a place in it (RFC 3261, section 7.3).
-use Rattle.std.specs.Prelude.{◌≡◌, ℕ, ◌+◌, ◌-◌, ◌≤◌, Bool, List, length, Option, Some, None, if◌then◌else◌, slice_range, codes}
+use Rattle.std.specs.Prelude.{◌≡◌, ℕ, ◌+◌, ◌-◌, ◌≤◌, ◌==◌, Bool, List, length, Option, Some, None, if◌then◌else◌, slice_range, codes}
 use Rattle.std.specs.Str.{str_eq_ignore_ascii_case}
 use Rattle.sip_words.specs.declared.bytes.Class.TheVariants.{Token}
-use Rattle.sip_words.specs.Bytes.{◌or◌}
 use Rattle.sip_words.specs.Spans.{span}
 use Rattle.sip_words.specs.Words.{◌>>=◌, word_end, stands}
 use Rattle.sip_words.specs.Many.{Next, Item, Done, Wrong, many}
@@ -40,6 +39,25 @@ kind_of name =
     if is_word (full_name name) (codes "Record-Route") then kind.RecordRoute else
     if is_word (full_name name) (codes "Contact") then kind.Contact else
     if is_word (full_name name) (codes "Content-Length") then kind.ContentLength else kind.Other
+
+-- the kinds, numbered; a field of any other name is of the kind Other
+abbrev pub kind_number : Kind → ℕ
+kind_number k = elim k [
+  | kind.Via ↦ 0
+  | kind.From ↦ 1
+  | kind.To ↦ 2
+  | kind.CallId ↦ 3
+  | kind.CSeq ↦ 4
+  | kind.MaxForwards ↦ 5
+  | kind.Route ↦ 6
+  | kind.RecordRoute ↦ 7
+  | kind.Contact ↦ 8
+  | kind.ContentLength ↦ 9
+  | kind.Other ↦ 10
+]
+
+abbrev pub is_same_kind : Kind → Kind → Bool
+is_same_kind a b = kind_number a == kind_number b
 
 -- token *(SP / HTAB) ":" value CRLF, where the value may go on in continuation lines
 unfoldable pub field_at : List ℕ → ℕ → Option HeaderSpan

@@ -24,6 +24,17 @@ pub enum Kind {
     Other,
 }
 
+impl Kind {
+    ghost use Rattle.sip_scan.specs.Field.{is_same_kind};
+
+    /// Whether these are one kind.
+    pub fn is_same(self, other: Kind) -> bool
+        ensures { result ≡ is_same_kind self other }
+    {
+        self == other
+    }
+}
+
 /// A header field, as spans of the datagram.
 #[derive(Clone, Copy, Debug, Default, PartialEq, Eq)]
 pub struct HeaderSpan {
