@@ -32,9 +32,12 @@ abbrev pub edit_place : Edit → ℕ
 edit_place (Cut at) = at.from
 edit_place (Insert place text) = place
 
--- the edits with these numbers
+-- the edit with this number, and the edits with these
+abbrev pub numbered : List Edit → ℕ → Edit
+numbered edits i = slice_index_or edits i (Cut (record { from = 0; to = 0 }))
+
 abbrev pub picked : List Edit → List ℕ → List Edit
-picked edits order = map (λ (i : ℕ). slice_index_or edits i (Cut (record { from = 0; to = 0 }))) order
+picked edits order = map (numbered edits) order
 
 -- no edit begins before the place
 abbrev pub AllFrom : ℕ → List Edit → Type 0
@@ -45,11 +48,6 @@ AllFrom place (e ∷ edits) = (place ≤ edit_place e) × AllFrom place edits
 abbrev pub IsByPlace : List Edit → Type 0
 IsByPlace [] = Unit {0}
 IsByPlace (e ∷ edits) = AllFrom (edit_place e) edits × IsByPlace edits
-
--- two lists of edits that make the same of every text
-pub record SameEdits (xs ys : List Edit) : Type 0 where
-  pub inserts : (i : ℕ) → inserted_at xs i ≡ inserted_at ys i
-  pub cuts : (i : ℕ) → is_cut xs i ≡ is_cut ys i
 
 -- every edit begins at the place or before it
 abbrev pub AllUpTo : ℕ → List Edit → Type 0

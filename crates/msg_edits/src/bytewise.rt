@@ -17,9 +17,10 @@ impl<'a> Changes<'a> {
         let mut len = 0;
         for at in 0..b.len() {
             len = self.put_inserts(at, out, len);
-            if !self.cuts(at) {
-                len = put(out, len, &b[at..at + 1]);
+            if self.cuts(at) {
+                continue;
             }
+            len = put(out, len, &b[at..at + 1]);
         }
         self.put_inserts(b.len(), out, len)
     }

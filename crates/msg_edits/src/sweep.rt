@@ -3,7 +3,7 @@ ghost use Rattle.std.specs.Prelude.{◌≡◌, ◌<◌, ◌≤◌, ◌+◌, ℕ,
 ghost use Rattle.msg_edits.specs.declared.parts.Edit.{Edit};
 ghost use Rattle.msg_edits.specs.Edited.{edited};
 ghost use Rattle.msg_edits.specs.Change.{edit_of};
-ghost use Rattle.msg_edits.specs.Writing.{edits_of, edit_place, picked, IsOrder, IsSwept, IsWrittenSoFar};
+ghost use Rattle.msg_edits.specs.Writing.{edits_of, edit_place, picked, IsOrder, SameEdits, IsSwept, IsWrittenSoFar};
 
 use crate::changes::Changes;
 use crate::parts::Change;
@@ -21,16 +21,19 @@ impl Changes<'_> {
     /// Writes as much of the text as fits, in whole pieces, and answers the length of all of it, held at the end of
     /// the type.
     pub fn sweep(&self, order: &[u8], b: &[u8], out: &mut [u8]) -> usize
-        requires { IsOrder (edits_of self.now) order.now }
-        ensures { IsWrittenSoFar out.old out.new result (edited b.now (picked (edits_of self.now) order.now)) }
+        requires order { IsOrder (edits_of self.now) order.now }
+        requires whole { SameEdits (picked (edits_of self.now) order.now) (edits_of self.now) }
+        ensures { IsWrittenSoFar out.old out.new result (edited b.now (edits_of self.now)) }
     {
         let mut so_far = Progress { len: 0, from: 0 };
         for i in order {
             let change = self.get(*i as usize);
-            if change.place() <= b.len() {
-                so_far = so_far.with_bytes(b, change.place(), out);
-                so_far = so_far.with_change(change, out);
+            let place = change.place();
+            if place > b.len() {
+                continue;
             }
+            so_far = so_far.with_bytes(b, place, out);
+            so_far = so_far.with_change(change, out);
         }
         so_far.with_bytes(b, b.len(), out).len
     }

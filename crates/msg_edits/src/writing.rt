@@ -1,5 +1,5 @@
 //! Writing a text after edits into a room.
-ghost use Rattle.std.specs.Prelude.{map, ◌++◌};
+ghost use Rattle.std.specs.Prelude.{map, ◌++◌, ◌≤◌, length};
 ghost use Rattle.msg_edits.specs.Edited.{edited};
 ghost use Rattle.msg_edits.specs.Change.{edit_of};
 ghost use Rattle.msg_edits.specs.Writing.{edits_of, IsWritten, IsWrittenSoFar};

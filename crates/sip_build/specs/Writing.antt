@@ -20,7 +20,7 @@ use Rattle.sip_build.specs.declared.joined.Joined.{Joined}
 use Rattle.sip_build.specs.declared.joined.Taken.{Taken}
 use Rattle.sip_build.specs.declared.joined.Taken.TheVariants.{Vias, Routes}
 use Rattle.sip_build.specs.declared.stamp.Stamp.{Stamp}
-use Rattle.sip_build.specs.Parts.{is_route, edited_field}
+use Rattle.sip_build.specs.Parts.{edited_field}
 use Rattle.sip_build.specs.Reply.{answer}
 
 -- an edit of a text, as an edit of a part of it; one that lies elsewhere does nothing
@@ -34,7 +34,7 @@ edits_of_stamp s = Cut s.received ∷ Insert s.rport_end s.port.bytes ∷ Insert
 
 abbrev pub is_taken : Taken → HeaderSpan → Bool
 is_taken Vias f = is_of kind.Via f
-is_taken Routes f = is_route f
+is_taken Routes f = is_of kind.Route f
 
 -- the fields of a joined text
 abbrev pub fields_text : Joined → List ℕ

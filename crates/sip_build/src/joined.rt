@@ -6,7 +6,7 @@ ghost use Rattle.msg_edits.specs.Edited.{edited, edited_from};
 ghost use Rattle.msg_edits.specs.Writing.{IsWritten, IsWrittenSoFar};
 ghost use Rattle.sip_build.specs.Writing.{within, is_taken, fields_text, pieces_text, joined_text, FieldsLie};
 
-use crate::fields::{is_of, is_route};
+use crate::fields::is_of;
 use msg_edits::{Change, TooLong, apply_after};
 use sip_msg::Span;
 use sip_scan::{HeaderSpan, Kind};
@@ -74,7 +74,7 @@ impl Joined<'_, '_, '_, '_, '_> {
     {
         match self.taken {
             Taken::Vias => is_of(field, Kind::Via),
-            Taken::Routes => is_route(field),
+            Taken::Routes => is_of(field, Kind::Route),
         }
     }
 }

@@ -1,10 +1,12 @@
 //! Texts worked out by hand from the RFCs.
+use crate::fields::{field_text, first};
 use crate::{
     TooLong, ack, append_field, basis_reply, cancel, forwarded, relayed_reply, reply, reply_to,
 };
 use msg_edits::{Edit, Edits};
 use outside_ports::Addr;
 use sip_msg::{Message, Span, read_basis};
+use sip_scan::Kind;
 use std::process::Abort;
 
 /// 192.0.2.1 with a port.
@@ -420,4 +422,43 @@ fn added_fields(rt: HostRuntime) {
     let result = append_field(&mut room, 5, field, whole);
     assert!(rt; result == Err(TooLong { len: 9 }));
     assert!(rt; &room == b"A\r\n\r\n..");
+}
+
+/// The first field of this kind in the message `text`, or no byte where it has none.
+#[tactic(auto, using(crate::proofs::Readings::fields_lie))]
+fn finds(rt: &impl Abort, text: &'static [u8], kind: Kind, want: &'static [u8]) {
+    match Message::read(text) {
+        Ok(m) => {
+            assert!(rt; field_text(text, &m.head.fields, kind) == want);
+            let found = first(text, &m.head.fields, kind);
+            assert!(rt; found.is_none() == want.is_empty());
+            assert!(rt; found.is_none_or(|field| field.kind == kind));
+        }
+        Err(_) => assert!(rt; false),
+    }
+}
+
+const ALL_KINDS: &[u8] =
+    b"INVITE sip:b@h SIP/2.0\r\nX: 1\r\nm: <sip:c1>\r\nVia: SIP/2.0/UDP h;branch=z9hG4bK1\r\nRecord-Route: <sip:r1;lr>\r\nroute: <sip:p1;lr>\r\nContact: <sip:c2>\r\nRoute: <sip:p2>\r\nMax-Forwards: 7\r\nf: <sip:u@h>;tag=f\r\nTo: <sip:b@h>\r\nCall-ID: k\r\nCSeq: 1 INVITE\r\nRecord-Route: <sip:r2>\r\nl: 0\r\n\r\n";
+
+#[test]
+fn fields_of_each_kind(rt: HostRuntime) {
+    let rows: [(Kind, &'static [u8]); 11] = [
+        (Kind::Via, b"Via: SIP/2.0/UDP h;branch=z9hG4bK1\r\n"),
+        (Kind::From, b"f: <sip:u@h>;tag=f\r\n"),
+        (Kind::To, b"To: <sip:b@h>\r\n"),
+        (Kind::CallId, b"Call-ID: k\r\n"),
+        (Kind::CSeq, b"CSeq: 1 INVITE\r\n"),
+        (Kind::MaxForwards, b"Max-Forwards: 7\r\n"),
+        (Kind::Route, b"route: <sip:p1;lr>\r\n"),
+        (Kind::RecordRoute, b"Record-Route: <sip:r1;lr>\r\n"),
+        (Kind::Contact, b"m: <sip:c1>\r\n"),
+        (Kind::ContentLength, b"l: 0\r\n"),
+        (Kind::Other, b"X: 1\r\n"),
+    ];
+    for (kind, want) in rows {
+        finds(&rt, ALL_KINDS, kind, want);
+    }
+    finds(&rt, BUSY, Kind::Route, b"");
+    finds(&rt, BUSY, Kind::Contact, b"");
 }
