@@ -14,7 +14,12 @@ use sip_scan::Kind;
 /// Writes the response `m` without its top Via value, and with the edits: the whole field is removed where it is its
 /// only value, else the value, its comma and the LWS after it. Bytes behind the end of the message are left out.
 #[tactic(auto, using(crate::proofs::Readings::fields_lie, crate::proofs::Readings::end_within))]
-pub fn relayed_reply(b: &[u8], m: &Message, edits: &[Edit], out: &mut [u8]) -> Result<usize, TooLong>
+pub fn relayed_reply(
+    b: &[u8],
+    m: &Message,
+    edits: &[Edit],
+    out: &mut [u8],
+) -> Result<usize, TooLong>
     requires { Reads b.now m.now }
     ensures { IsWritten (relayed_text b.now m.now edits.now) out.old out.new result }
 {

@@ -32,7 +32,7 @@ loop-i-preserved c =
     let is = get_or_from_slice_get edits (slice_index order i) e (Cut (record { from = 0; to = 0 })) c.get-change.ensures in
     let moved = rw c.place-place.ensures at c.with_bytes-so_far.ensures in
     one_swept edits order b i e c.loop-i.so_far c.with_change-so_far.result room c.loop-i.out c.with_change-so_far.new.out (omega arith) is c.loop-i.invariant
-      (λ (le : c.loop-i.invariant.last ≤ edit_place e) (s : IsSwept (picked edits (take i order)) b c.loop-i.invariant.last c.loop-i.so_far room c.loop-i.out). c.with_change-so_far.ensures (picked edits (take i order)) b room (moved (picked edits (take i order)) c.loop-i.invariant.last room le s))
+    (λ (le : c.loop-i.invariant.last ≤ edit_place e) (s : IsSwept (picked edits (take i order)) b c.loop-i.invariant.last c.loop-i.so_far room c.loop-i.out). c.with_change-so_far.ensures (picked edits (take i order)) b room (moved (picked edits (take i order)) c.loop-i.invariant.last room le s))
 
 pub returns : goal.returns
 returns c =
