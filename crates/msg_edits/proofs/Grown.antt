@@ -8,6 +8,7 @@ use Rattle.sip_words.specs.declared.Span.{Span}
 use Rattle.msg_edits.specs.declared.parts.Edit.{Edit}
 use Rattle.msg_edits.specs.declared.parts.Edit.TheVariants.{Cut, Insert}
 use Rattle.msg_edits.specs.Edited.{has_byte, is_cut, inserted_at, edited_byte, edited_from, edited}
+use Rattle.msg_edits.specs.Writing.{SameEdits}
 use Rattle.msg_edits.specs.Laws.{LiesWithin, left_by_cut, IsElsewhere}
 use Rattle.msg_edits.proofs.Steps.{inserted_push, cut_push}
 use Rattle.msg_edits.proofs.Pieces.{from_append}
@@ -31,14 +32,22 @@ same_bytes edits more i (b ∷ bytes) inserts cuts =
     let rest = same_bytes edits more (i + 1) bytes (λ k low high. inserts k (omega arith) (omega arith)) (λ k low high. cuts k (omega arith) (omega arith)) in
     rw (here, rest) refl
 
+-- two lists that insert and cut alike everywhere make the same of every text
+pub same_from : (xs ys : List Edit) → SameEdits xs ys → (i : ℕ) (bytes : List ℕ) → edited_from xs i bytes ≡ edited_from ys i bytes
+same_from xs ys h i bytes = same_bytes ys xs i bytes (λ k low high. h.inserts k) (λ k low high. h.cuts k)
+
+pub same_edited : (xs ys : List Edit) → SameEdits xs ys → (text : List ℕ) → edited text xs ≡ edited text ys
+unfolding edited
+same_edited xs ys h text = rw (same_from xs ys h 0 text, h.inserts (length text)) refl
+
 -- an insert changes nothing elsewhere
-insert_elsewhere : (edits : List Edit) (place k : ℕ) (new : List ℕ) → place ≢ k → inserted_at (edits ++ Insert place new ∷ []) k ≡ inserted_at edits k
+pub insert_elsewhere : (edits : List Edit) (place k : ℕ) (new : List ℕ) → place ≢ k → inserted_at (edits ++ Insert place new ∷ []) k ≡ inserted_at edits k
 insert_elsewhere edits place k new ne = let off = ne_eqb place k ne in inserted_push edits (Insert place new) k ∙ rw off (append-nil _)
 
-insert_here : (edits : List Edit) (place : ℕ) (new : List ℕ) → inserted_at (edits ++ Insert place new ∷ []) place ≡ inserted_at edits place ++ new
+pub insert_here : (edits : List Edit) (place : ℕ) (new : List ℕ) → inserted_at (edits ++ Insert place new ∷ []) place ≡ inserted_at edits place ++ new
 insert_here edits place new = let on = eq-eqb place place refl in inserted_push edits (Insert place new) place ∙ rw on refl
 
-insert_cuts : (edits : List Edit) (place k : ℕ) (new : List ℕ) → is_cut (edits ++ Insert place new ∷ []) k ≡ is_cut edits k
+pub insert_cuts : (edits : List Edit) (place k : ℕ) (new : List ℕ) → is_cut (edits ++ Insert place new ∷ []) k ≡ is_cut edits k
 insert_cuts edits place k new = cut_push edits (Insert place new) k ∙ grind (arith, common_steps)
 
 -- what stands behind the inserts at place i
@@ -99,10 +108,10 @@ insert_law text edits place new le =
     after ∙ regroup front (inserted_at edits place) new back ∙ rw (before_place edits text place le, was) (sym (in_two front (inserted_at edits place) new back))
 
 -- a cut changes no insert, and no byte elsewhere
-cut_inserts : (edits : List Edit) (at : Span) (k : ℕ) → inserted_at (edits ++ Cut at ∷ []) k ≡ inserted_at edits k
+pub cut_inserts : (edits : List Edit) (at : Span) (k : ℕ) → inserted_at (edits ++ Cut at ∷ []) k ≡ inserted_at edits k
 cut_inserts edits at k = inserted_push edits (Cut at) k ∙ append-nil _
 
-cut_elsewhere : (edits : List Edit) (at : Span) (k : ℕ) → has_byte at k ≡ false → is_cut (edits ++ Cut at ∷ []) k ≡ is_cut edits k
+pub cut_elsewhere : (edits : List Edit) (at : Span) (k : ℕ) → has_byte at k ≡ false → is_cut (edits ++ Cut at ∷ []) k ≡ is_cut edits k
 cut_elsewhere edits at k off = cut_push edits (Cut at) k ∙ grind (arith, common_steps)
 
 cut_here : (edits : List Edit) (at : Span) (k : ℕ) → has_byte at k ≡ true → is_cut (edits ++ Cut at ∷ []) k ≡ true
@@ -111,7 +120,7 @@ cut_here edits at k on = cut_push edits (Cut at) k ∙ grind (arith, common_step
 pub has_inside : (at : Span) (k : ℕ) → at.from ≤ k → k < at.to → has_byte at k ≡ true
 has_inside at k low high = grind (arith, common_steps)
 
-has_below : (at : Span) (k : ℕ) → k < at.from → has_byte at k ≡ false
+pub has_below : (at : Span) (k : ℕ) → k < at.from → has_byte at k ≡ false
 has_below at k low = grind (arith, common_steps)
 
 has_above : (at : Span) (k : ℕ) → at.to ≤ k → has_byte at k ≡ false

@@ -3,3 +3,5 @@ pub mod Pieces
 pub mod Grown
 pub mod Lengths
 pub mod Once
+pub mod Order
+pub mod Swept

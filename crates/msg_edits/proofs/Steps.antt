@@ -1,12 +1,11 @@
 -- One edit more of a list.
-use Rattle.std.proofs.Common.{◌≡◌, ℕ, zero, suc, ◌+◌, ◌<◌, ◌≤◌, true, List, [], ◌∷◌, ◌++◌, take, Some, refl, ap, ◌∙◌, arith, add-one}
+use Rattle.std.proofs.Common.{◌≡◌, ℕ, zero, suc, ◌+◌, true, List, [], ◌∷◌, ◌++◌, take, Some, refl, ap, ◌∙◌, arith, add-one}
 use Rattle.std.specs.Prelude.{slice_get, ◌||◌}
 use Rattle.std.proofs.lemmas.List.{append-nil}
 use Rattle.std.proofs.lemmas.List.Concat.{flat_map-append}
 use Rattle.std.proofs.lemmas.List.Folds.{list_any-append}
 use Rattle.msg_edits.specs.declared.parts.Edit.{Edit}
 use Rattle.msg_edits.specs.Edited.{cuts_byte, text_at, is_cut, inserted_at}
-use Rattle.msg_edits.specs.Writing.{IsQuiet}
 
 pub take_next : {X : Type 0} (xs : List X) (i : ℕ) (x : X) → slice_get xs i ≡ Some x → take (i + 1) xs ≡ take i xs ++ x ∷ []
 take_next [] i x h = absurd (cc)
@@ -24,12 +23,6 @@ inserted_more edits i e k h = ap (λ (es : List Edit). inserted_at es k) (take_n
 
 pub cut_more : (edits : List Edit) (i : ℕ) (e : Edit) (k : ℕ) → slice_get edits i ≡ Some e → is_cut (take (i + 1) edits) k ≡ (is_cut (take i edits) k || cuts_byte k e)
 cut_more edits i e k h = ap (λ (es : List Edit). is_cut es k) (take_next edits i e h) ∙ cut_push (take i edits) e k
-
-pub quiet_more : (edits : List Edit) (i : ℕ) (e : Edit) (at stop next : ℕ) → slice_get edits i ≡ Some e → IsQuiet (take i edits) at stop → next ≤ stop → ((k : ℕ) → at < k → k < next → text_at k e ≡ []) → ((k : ℕ) → at < k → k < next → cuts_byte k e ≡ cuts_byte at e) → IsQuiet (take (i + 1) edits) at next
-quiet_more edits i e at stop next h quiet le inserts cuts = record {
-  inserts = λ k past before. rw (inserted_more edits i e k h, quiet.inserts k past (omega arith), inserts k past before) refl;
-  cuts = λ k past before. rw (cut_more edits i e k h, cut_more edits i e at h, quiet.cuts k past (omega arith), cuts k past before) refl;
-}
 
 pub cut_found : (edits : List Edit) (i : ℕ) (e : Edit) (k : ℕ) → slice_get edits i ≡ Some e → cuts_byte k e ≡ true → is_cut edits k ≡ true
 cut_found [] i e k found here = absurd (cc)

@@ -6,13 +6,17 @@
 //! cut.
 //!
 //! - [`Edits`] is the list that a routing script fills: at most 64 edits, of which no two cuts share a byte.
-//! - [`apply`] writes a text after edits. [`apply_after`] does the same with some more [`Change`]s before them,
-//!   whose inserted texts are borrowed, so that a caller adds its own without memory.
+//! - [`apply`] writes a text after edits, which are put in order once and made in one pass. [`apply_after`] does the
+//!   same with some more [`Change`]s before them, whose inserted texts are borrowed, so that a caller adds its own
+//!   without memory.
 #![tactic(auto)]
 
+mod bytewise;
+mod changes;
 pub mod laws;
 mod list;
 mod parts;
+mod sweep;
 #[cfg(test)]
 mod tests;
 mod writing;

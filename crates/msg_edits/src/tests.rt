@@ -30,12 +30,15 @@ fn becomes(rt: &(impl Abort + AllocGlobal), shows: &str, changes: &[Change<'stat
     let len = want.len();
     let mut room = [7; 16];
     assert!(rt; len < 16);
-    assert!(rt; apply(TEXT, &edits, &mut room) == Ok(len), "{shows}");
+    assert!(rt;
+        apply(TEXT, edits.as_slice(), &mut room) == Ok(len),
+        "{shows}"
+    );
     assert_eq!(rt; &room[..len], want, "{shows}");
     assert!(rt; room[len..].iter().all(|b| *b == 7), "{shows}");
     let mut just_enough = [7; 16];
     assert!(rt;
-        apply(TEXT, &edits, &mut just_enough[..len]) == Ok(len),
+        apply(TEXT, edits.as_slice(), &mut just_enough[..len]) == Ok(len),
         "{shows}"
     );
     assert!(rt; just_enough == room, "{shows}");
@@ -86,9 +89,9 @@ fn too_long(rt: HostRuntime) {
     let mut edits = Edits::new();
     assert!(rt; edits.insert(rt.alloc(), 2, b"123").is_ok());
     let mut room = [7; 8];
-    assert!(rt; apply(TEXT, &edits, &mut room) == Err(TooLong { len: 9 }));
+    assert!(rt; apply(TEXT, edits.as_slice(), &mut room) == Err(TooLong { len: 9 }));
     assert!(rt; room == [7; 8]);
-    assert!(rt; apply(TEXT, &edits, &mut []) == Err(TooLong { len: 9 }));
+    assert!(rt; apply(TEXT, edits.as_slice(), &mut []) == Err(TooLong { len: 9 }));
 }
 
 /// Changes with borrowed texts go before the edits of the list.
@@ -99,7 +102,7 @@ fn changes_before_edits(rt: HostRuntime) {
     assert!(rt; edits.cut(Span { from: 4, to: 6 }).is_ok());
     let mut room = [7; 32];
     let first = [insert(0, b"first "), cut(0, 2), insert(0, b"new ")];
-    let len = apply_after(TEXT, &first, &edits, &mut room).unwrap_or(0);
+    let len = apply_after(TEXT, &first, edits.as_slice(), &mut room).unwrap_or(0);
     assert_eq!(rt; &room[..len], b"first new last cd".as_slice());
 }
 
@@ -143,8 +146,8 @@ fn sixty_four_edits(rt: HostRuntime) {
     assert!(rt; edits.cut(Span { from: 1, to: 2 }) == Err(EditFault::Full));
     assert_eq!(rt; edits.as_slice().len(), 64);
     let mut room = [7; 80];
-    assert!(rt; apply(TEXT, &edits, &mut room) == Ok(68));
+    assert!(rt; apply(TEXT, edits.as_slice(), &mut room) == Ok(68));
     edits.truncate(2);
-    assert!(rt; apply(TEXT, &edits, &mut room) == Ok(6));
+    assert!(rt; apply(TEXT, edits.as_slice(), &mut room) == Ok(6));
     assert_eq!(rt; &room[..6], b"bcdef-".as_slice());
 }

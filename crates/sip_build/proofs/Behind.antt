@@ -1,7 +1,7 @@
 -- A piece that is written behind a text.
 use Rattle.std.proofs.Common.{◌≡◌, ℕ, ◌+◌, ◌-◌, ◌^◌, ◌<◌, ◌≤◌, List, [], ◌++◌, length, take, drop, min, refl, sym, ap, ◌∙◌, arith, append_assoc, length-take, length-drop, length-append}
 use Rattle.std.proofs.lemmas.List.{append-nil, take_at, drop_at, drop-drop, take_all, drop_all}
-use Rattle.msg_edits.specs.Writing.{IsWritten}
+use Rattle.msg_edits.specs.Writing.{IsWrittenSoFar}
 
 grouped : (a b c : List ℕ) → a ++ ((b ++ c) ++ []) ≡ (a ++ b) ++ c
 grouped a b c = simp (append_assoc, append-nil)
@@ -16,7 +16,7 @@ whole_rest : (xs : List ℕ) (n : ℕ) → length xs ≤ n → take n xs ≡ xs
 whole_rest xs n le = take_all n xs le
 
 -- new is what the rest of the room behind len becomes
-pub written_behind : (room out text piece new : List ℕ) (len n end : ℕ) → length out < 2 ^ 64 → len ≤ length out → IsWritten room out len text → IsWritten (take (length out - len) (drop len out)) new n piece → end ≡ min (len + n) (2 ^ 64 - 1) → IsWritten room (take len out ++ (new ++ drop (length out - len) (drop len out))) end (text ++ piece)
+pub written_behind : (room out text piece new : List ℕ) (len n end : ℕ) → length out < 2 ^ 64 → len ≤ length out → IsWrittenSoFar room out len text → IsWrittenSoFar (take (length out - len) (drop len out)) new n piece → end ≡ min (len + n) (2 ^ 64 - 1) → IsWrittenSoFar room (take len out ++ (new ++ drop (length out - len) (drop len out))) end (text ++ piece)
 written_behind room out text piece new len n end small le w v e =
     let rest_is : take (length out - len) (drop len out) ≡ drop len out = take_all (length out - len) (drop len out) (omega (arith, length-drop len out)) in
     let none : drop (length out - len) (drop len out) ≡ [] = drop_all (length out - len) (drop len out) (omega (arith, length-drop len out)) in
@@ -35,5 +35,5 @@ written_behind room out text piece new len n end small le w v e =
           rw none (ap (λ (t : List ℕ). take len t ++ (new ++ [])) out_is ∙ bytes_behind room text piece new len n_is text_fits new_is);
     }
 
-pub nothing_written : (room : List ℕ) → IsWritten room room 0 []
+pub nothing_written : (room : List ℕ) → IsWrittenSoFar room room 0 []
 nothing_written room = record { same_room = refl; count = refl; bytes = λ _. refl }

@@ -15,19 +15,20 @@ use Rattle.sip_build.specs.Stamp.{stamp}
 use Rattle.sip_build.specs.Parts.{part, field_text, edited_vias, routes, uri_of}
 use Rattle.sip_build.specs.Reply.{reply_tag, reply_to_field}
 use Rattle.sip_build.specs.Hop.{hop_request}
-use Rattle.sip_build.specs.Writing.{IsFitted, fields_text, pieces_text, joined_text, answer_to, to_text}
+use Rattle.msg_edits.specs.Writing.{IsWritten}
+use Rattle.sip_build.specs.Writing.{fields_text, pieces_text, joined_text, answer_to, to_text}
 
 -- the pieces of an answer
 answer_pieces : (sip code gap reason crlf vias from front mark token back call cseq last : List ℕ) → ((sip ++ (code ++ gap)) ++ (reason ++ (crlf ++ []))) ++ (vias ++ (from ++ (front ++ (mark ++ (token ++ (back ++ (call ++ (cseq ++ (last ++ []))))))))) ≡ (sip ++ (code ++ (gap ++ (reason ++ crlf)))) ++ (vias ++ (from ++ ((front ++ (mark ++ (token ++ back))) ++ (call ++ (cseq ++ last)))))
 answer_pieces sip code gap reason crlf vias from front mark token back call cseq last = simp (append_assoc, append-nil)
 
 pub answered : (j : Joined) {old new : List ℕ} {result : Result ℕ TooLong} (r : Request) (source : Addr) (code : ℕ) (reason : List ℕ) (to : ToField)
-    → IsFitted (joined_text j) old new result
+    → IsWritten (joined_text j) old new result
     → pieces_text j.front.now ≡ (codes "SIP/2.0 " ++ (decimal code ++ codes " ")) ++ (reason ++ (codes "\r\n" ++ []))
     → fields_text j ≡ edited_vias r.b.now (stamp r.via.now source) r.fields.now
     → pieces_text j.back.now ≡ field_text r.b.now (first kind.From r.fields.now) ++ (to.front.now ++ (to.mark.now ++ (to.token.now ++ (to.back.now ++ (field_text r.b.now (first kind.CallId r.fields.now) ++ (field_text r.b.now (first kind.CSeq r.fields.now) ++ (codes "Content-Length: 0\r\n\r\n" ++ [])))))))
     → to_text to ≡ reply_to_field r.b.now (first kind.To r.fields.now) r.to code (reply_tag r.b.now r.via.now.branch)
-    → IsFitted (answer_to r source code reason) old new result
+    → IsWritten (answer_to r source code reason) old new result
 unfolding joined_text answer_to
 answered j {old} {new} {result} r source code reason to fit front fields back tag =
     let vias = edited_vias r.b.now (stamp r.via.now source) r.fields.now in
@@ -37,18 +38,18 @@ answered j {old} {new} {result} r source code reason to fit front fields back ta
     let joined : joined_text j ≡ ((codes "SIP/2.0 " ++ (decimal code ++ codes " ")) ++ (reason ++ (codes "\r\n" ++ []))) ++ (vias ++ (from ++ (to.front.now ++ (to.mark.now ++ (to.token.now ++ (to.back.now ++ (call ++ (cseq ++ (codes "Content-Length: 0\r\n\r\n" ++ []))))))))) = rw (front, fields, back) refl in
     let pieces = answer_pieces (codes "SIP/2.0 ") (decimal code) (codes " ") reason (codes "\r\n") vias from to.front.now to.mark.now to.token.now to.back.now call cseq (codes "Content-Length: 0\r\n\r\n") in
     let whole = joined ∙ pieces ∙ ap (λ (t : List ℕ). (codes "SIP/2.0 " ++ (decimal code ++ (codes " " ++ (reason ++ codes "\r\n")))) ++ (vias ++ (from ++ (t ++ (call ++ (cseq ++ codes "Content-Length: 0\r\n\r\n")))))) tag in
-    subst (λ (t : List ℕ). IsFitted t old new result) whole fit
+    subst (λ (t : List ℕ). IsWritten t old new result) whole fit
 
 -- the pieces of an ACK or CANCEL
 hop_pieces : (method gap uri version via hops routes from to call cseq number crlf last : List ℕ) → (method ++ (gap ++ (uri ++ (version ++ (via ++ (hops ++ [])))))) ++ (routes ++ (from ++ (to ++ (call ++ ((cseq ++ (number ++ (gap ++ (method ++ crlf)))) ++ (last ++ [])))))) ≡ method ++ (gap ++ (uri ++ (version ++ (via ++ (hops ++ (routes ++ (from ++ (to ++ (call ++ (cseq ++ (number ++ (gap ++ (method ++ (crlf ++ last))))))))))))))
 hop_pieces method gap uri version via hops routes from to call cseq number crlf last = simp (append_assoc, append-nil)
 
 pub hopped : (j : Joined) {old new : List ℕ} {result : Result ℕ TooLong} (method b : List ℕ) (m : Message) (to : List ℕ)
-    → IsFitted (joined_text j) old new result
+    → IsWritten (joined_text j) old new result
     → pieces_text j.front.now ≡ method ++ (codes " " ++ (part b (uri_of m.start) ++ (codes " SIP/2.0\r\nVia: " ++ (part b m.via.whole ++ (codes "\r\nMax-Forwards: 70\r\n" ++ [])))))
     → fields_text j ≡ routes b m.head.fields.items
     → pieces_text j.back.now ≡ field_text b (first kind.From m.head.fields.items) ++ (to ++ (field_text b (first kind.CallId m.head.fields.items) ++ ((codes "CSeq: " ++ (decimal m.cseq.number ++ (codes " " ++ (method ++ codes "\r\n")))) ++ (codes "Content-Length: 0\r\n\r\n" ++ []))))
-    → IsFitted (hop_request method b m to) old new result
+    → IsWritten (hop_request method b m to) old new result
 unfolding joined_text hop_request
 hopped j {old} {new} {result} method b m to fit front fields back =
     let rs = routes b m.head.fields.items in
@@ -56,4 +57,4 @@ hopped j {old} {new} {result} method b m to fit front fields back =
     let call = field_text b (first kind.CallId m.head.fields.items) in
     let pieces = hop_pieces method (codes " ") (part b (uri_of m.start)) (codes " SIP/2.0\r\nVia: ") (part b m.via.whole) (codes "\r\nMax-Forwards: 70\r\n") rs from to call (codes "CSeq: ") (decimal m.cseq.number) (codes "\r\n") (codes "Content-Length: 0\r\n\r\n") in
     let joined : joined_text j ≡ (method ++ (codes " " ++ (part b (uri_of m.start) ++ (codes " SIP/2.0\r\nVia: " ++ (part b m.via.whole ++ (codes "\r\nMax-Forwards: 70\r\n" ++ [])))))) ++ (rs ++ (from ++ (to ++ (call ++ ((codes "CSeq: " ++ (decimal m.cseq.number ++ (codes " " ++ (method ++ codes "\r\n")))) ++ (codes "Content-Length: 0\r\n\r\n" ++ [])))))) = rw (front, fields, back) refl in
-    subst (λ (t : List ℕ). IsFitted t old new result) (joined ∙ pieces) fit
+    subst (λ (t : List ℕ). IsWritten t old new result) (joined ∙ pieces) fit

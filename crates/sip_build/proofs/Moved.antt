@@ -1,5 +1,5 @@
 -- Bytes that are put into a text in its room.
-use Rattle.std.proofs.Common.{◌≡◌, ℕ, ◌+◌, ◌-◌, ◌≤◌, List, ◌++◌, length, take, drop, ap, ◌∙◌, arith, append_assoc, length-take, Some}
+use Rattle.std.proofs.Common.{◌≡◌, ℕ, ◌+◌, ◌-◌, ◌≤◌, List, ◌++◌, length, take, drop, ap, ◌∙◌, arith, append_assoc, length-take, length-drop, length-append, Some}
 use Rattle.std.proofs.lemmas.List.{drop_at, take-append-le, take-take, drop-take, drop-drop}
 use Rattle.sip_build.specs.WithField.{empty_line, with_field}
 
@@ -36,3 +36,7 @@ field_added out bytes place len end found low high n fits =
     let middle : drop place (take len out) ≡ take (len - place) (drop place out) = ap (λ (k : ℕ). drop place (take k out)) (omega arith) ∙ drop-take place (len - place) out in
     let first : take place (take len out) ≡ take place out = take-take place len out low in
     rw (front, back, found, tail) (rw (first, middle) (grouped (take place out) bytes (take (len - place) (drop place out)) (drop end out)))
+
+pub with_field_length : (text bytes : List ℕ) (place : ℕ) → empty_line text ≡ Some place → place ≤ length text → length (with_field text bytes) ≡ length text + length bytes
+unfolding with_field
+with_field_length text bytes place found low = rw found (omega (arith, length-append (take place text) (bytes ++ drop place text), length-append bytes (drop place text), length-take place text, length-drop place text))

@@ -1,5 +1,5 @@
 -- Lists of edits that make the same of every text, and the texts that follow.
-use Rattle.std.proofs.Common.{◌≡◌, ℕ, ◌+◌, ◌==◌, Bool, true, false, List, [], ◌∷◌, ◌++◌, length, take, refl, sym, ap, ◌∙◌, arith, append_assoc, subst}
+use Rattle.std.proofs.Common.{◌≡◌, ℕ, ◌+◌, ◌==◌, Bool, true, false, List, [], ◌∷◌, ◌++◌, take, refl, sym, ap, ◌∙◌, arith, append_assoc, subst}
 use Rattle.std.specs.Prelude.{◌||◌, if◌then◌else◌, codes}
 use Rattle.std.specs.List.{filter, flat_map}
 use Rattle.std.proofs.lemmas.List.{append-nil}
@@ -11,19 +11,20 @@ use Rattle.sip_scan.specs.declared.field.HeaderSpan.{HeaderSpan}
 use Rattle.msg_edits.specs.declared.parts.Edit.{Edit}
 use Rattle.msg_edits.specs.declared.parts.Edit.TheVariants.{Cut, Insert}
 use Rattle.msg_edits.specs.Edited.{text_at, cuts_byte, edited_from, edited}
-use Rattle.msg_edits.proofs.Grown.{same_bytes}
+use Rattle.msg_edits.proofs.Grown.{same_from, same_edited}
 use Rattle.sip_scan.specs.declared.field.Kind.TheVariants as kind
 use Rattle.sip_msg.specs.declared.message.Message.{Message}
-use Rattle.sip_msg.specs.Fields.{first}
+use Rattle.sip_msg.specs.Fields.{is_of, first}
 use Rattle.numerals.specs.Numerals.{socket}
 use Rattle.outside_ports.specs.declared.port.Addr.{Addr}
-use Rattle.sip_build.specs.Parts.{part, edited_field, uri_of, routes, is_route, place_of}
+use Rattle.sip_build.specs.Parts.{part, edited_field, uri_of, routes, place_of}
 use Rattle.sip_build.specs.Stamp.{stamp}
 use Rattle.sip_build.specs.Relayed.{without_top_via, relayed_text}
 use Rattle.sip_build.specs.Forwarded.{replaced, via_line, with_hops, forwarding, forwarded_text}
 use Rattle.sip_build.specs.declared.stamp.Stamp.{Stamp}
 use Rattle.sip_build.specs.declared.forwarding.Hops.{Hops}
-use Rattle.sip_build.specs.Writing.{SameEdits, edits_of_stamp, edits_of_hops}
+use Rattle.msg_edits.specs.Writing.{SameEdits}
+use Rattle.sip_build.specs.Writing.{edits_of_stamp, edits_of_hops}
 
 pub same : (xs : List Edit) → SameEdits xs xs
 same xs = record { inserts = λ i. refl; cuts = λ i. refl }
@@ -33,13 +34,6 @@ together {a} {b} {c} {d} h k = record {
   inserts = λ i. flat_map-append (text_at i) a c ∙ rw (h.inserts i, k.inserts i) (sym (flat_map-append (text_at i) b d));
   cuts = λ i. list_any-append (cuts_byte i) a c ∙ rw (h.cuts i, k.cuts i) (sym (list_any-append (cuts_byte i) b d));
 }
-
-pub same_from : (xs ys : List Edit) → SameEdits xs ys → (i : ℕ) (bytes : List ℕ) → edited_from xs i bytes ≡ edited_from ys i bytes
-same_from xs ys h i bytes = same_bytes ys xs i bytes (λ k low high. h.inserts k) (λ k low high. h.cuts k)
-
-pub same_edited : (xs ys : List Edit) → SameEdits xs ys → (text : List ℕ) → edited text xs ≡ edited text ys
-unfolding edited
-same_edited xs ys h text = rw (same_from xs ys h 0 text, h.inserts (length text)) refl
 
 pub same_fields : (b : List ℕ) (xs ys : List Edit) → SameEdits xs ys → (fields : List HeaderSpan) → flat_map (edited_field b xs) fields ≡ flat_map (edited_field b ys) fields
 same_fields b xs ys h [] = refl
@@ -68,9 +62,9 @@ unchanged_fields : (b : List ℕ) (fields : List HeaderSpan) → flat_map (edite
 unchanged_fields b [] = refl
 unchanged_fields b (f ∷ fields) = rw (none_from f.whole.from (part b f.whole), unchanged_fields b fields) refl
 
-pub routes_are : (b : List ℕ) (fields : List HeaderSpan) → flat_map (edited_field b (Cut (record { from = 0; to = 0 }) ∷ Cut (record { from = 0; to = 0 }) ∷ Cut (record { from = 0; to = 0 }) ∷ [])) (filter is_route fields) ≡ routes b fields
+pub routes_are : (b : List ℕ) (fields : List HeaderSpan) → flat_map (edited_field b (Cut (record { from = 0; to = 0 }) ∷ Cut (record { from = 0; to = 0 }) ∷ Cut (record { from = 0; to = 0 }) ∷ [])) (filter (is_of kind.Route) fields) ≡ routes b fields
 unfolding unchanged
-routes_are b fields = same_fields b unchanged [] unchanged_is (filter is_route fields) ∙ unchanged_fields b (filter is_route fields)
+routes_are b fields = same_fields b unchanged [] unchanged_is (filter (is_of kind.Route) fields) ∙ unchanged_fields b (filter (is_of kind.Route) fields)
 
 -- a text in three pieces
 one_text : (b : Bool) (x y z : List ℕ) → (if b then x ++ (y ++ z) else []) ++ [] ≡ (if b then x else []) ++ ((if b then y else []) ++ ((if b then z else []) ++ []))

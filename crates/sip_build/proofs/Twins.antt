@@ -9,7 +9,8 @@ use Rattle.std.proofs.lemmas.List.Sums.{sum_by-cons}
 use Rattle.sip_scan.specs.declared.field.HeaderSpan.{HeaderSpan}
 use Rattle.sip_scan.specs.declared.field.Kind.{Kind}
 use Rattle.sip_scan.specs.Grammar.{crlf, lines, FieldTree, field, field_place, fields, field_places}
-use Rattle.sip_msg.specs.Fields.{is_kind, is_of, first, count}
+use Rattle.sip_scan.specs.Field.{is_same_kind}
+use Rattle.sip_msg.specs.Fields.{is_of, first, count}
 use Rattle.sip_msg.specs.Values.{next_value, values_read, list_reads}
 use Rattle.sip_build.proofs.ReadTwins.{Alike, values_alike}
 
@@ -77,7 +78,7 @@ twins_append b c (x ∷ xs) (y ∷ ys) vs ws h k = (h.0, twins_append b c xs ys 
 
 same_test : (k : Kind) (b c : List ℕ) (x y : HeaderSpan) → Twin b x c y → is_of k x ≡ is_of k y
 unfolding is_of
-same_test k b c x y h = ap (λ (o : Kind). is_kind k o) h.kind
+same_test k b c x y h = ap (λ (o : Kind). is_same_kind k o) h.kind
 
 pub first_twin : (k : Kind) (b c : List ℕ) (xs ys : List HeaderSpan) (x : HeaderSpan) → AreTwins b xs c ys → first k xs ≡ Some x → (y : HeaderSpan) × (first k ys ≡ Some y) × Twin b x c y
 first_twin k b c [] [] x h e = absurd (none-some x e)

@@ -1,5 +1,5 @@
 -- The parts of a message that texts take over.
-use Rattle.std.specs.Prelude.{ℕ, Bool, true, false, List, [], Option, Some, None, slice_range}
+use Rattle.std.specs.Prelude.{ℕ, List, [], Option, Some, None, slice_range}
 use Rattle.std.specs.List.{filter, flat_map}
 use Rattle.sip_words.specs.declared.Span.{Span}
 use Rattle.sip_words.specs.Spans.{span}
@@ -27,12 +27,9 @@ edited_field b edits f = edited_from edits f.whole.from (part b f.whole)
 abbrev pub edited_vias : List ℕ → List Edit → List HeaderSpan → List ℕ
 edited_vias b edits fields = flat_map (edited_field b edits) (filter (is_of kind.Via) fields)
 
-abbrev pub is_route : HeaderSpan → Bool
-is_route f = elim f.kind [ kind.Route ↦ true | _ ↦ false ]
-
 -- the fields Route, in order
 abbrev pub routes : List ℕ → List HeaderSpan → List ℕ
-routes b fields = flat_map (λ (f : HeaderSpan). part b f.whole) (filter is_route fields)
+routes b fields = flat_map (λ (f : HeaderSpan). part b f.whole) (filter (is_of kind.Route) fields)
 
 -- the URI of a request line; a status line has none
 abbrev pub uri_of : Start → Span

@@ -1,5 +1,5 @@
 -- What the private parts of the writing stand for.
-use Rattle.std.specs.Prelude.{◌≡◌, ℕ, ◌-◌, ◌^◌, ◌<◌, ◌≤◌, Bool, List, [], ◌∷◌, ◌++◌, All, IfSome, IfOk, IfErr, OnOk, OnErr, Result, length, drop, map, min, nat_le, nat_lt, if◌then◌else◌}
+use Rattle.std.specs.Prelude.{ℕ, ◌-◌, ◌≤◌, Bool, List, [], ◌∷◌, ◌++◌, All, IfSome, length, map, nat_le, nat_lt, if◌then◌else◌}
 use Rattle.std.specs.List.{filter, flat_map}
 use Rattle.std.specs.Borrow.{Bor}
 use Rattle.sip_words.specs.declared.Span.{Span}
@@ -9,9 +9,7 @@ use Rattle.sip_scan.specs.declared.field.HeaderSpan.{HeaderSpan}
 use Rattle.sip_scan.specs.declared.field.Kind.TheVariants as kind
 use Rattle.msg_edits.specs.declared.parts.Edit.{Edit}
 use Rattle.msg_edits.specs.declared.parts.Edit.TheVariants.{Cut, Insert}
-use Rattle.msg_edits.specs.declared.writing.TooLong.{TooLong}
 use Rattle.msg_edits.specs.Change.{edit_of}
-use Rattle.msg_edits.specs.Edited.{is_cut, inserted_at}
 use Rattle.sip_fields.specs.declared.name_addr.NameAddr.{NameAddr}
 use Rattle.sip_msg.specs.Fields.{is_of, first}
 use Rattle.outside_ports.specs.declared.port.Addr.{Addr}
@@ -22,27 +20,13 @@ use Rattle.sip_build.specs.declared.joined.Joined.{Joined}
 use Rattle.sip_build.specs.declared.joined.Taken.{Taken}
 use Rattle.sip_build.specs.declared.joined.Taken.TheVariants.{Vias, Routes}
 use Rattle.sip_build.specs.declared.stamp.Stamp.{Stamp}
-use Rattle.sip_build.specs.Parts.{is_route, edited_field}
+use Rattle.sip_build.specs.Parts.{edited_field}
 use Rattle.sip_build.specs.Reply.{answer}
-
--- two lists of edits that make the same of every text
-pub record SameEdits (xs ys : List Edit) : Type 0 where
-  pub inserts : (i : ℕ) → inserted_at xs i ≡ inserted_at ys i
-  pub cuts : (i : ℕ) → is_cut xs i ≡ is_cut ys i
 
 -- an edit of a text, as an edit of a part of it; one that lies elsewhere does nothing
 abbrev pub within : Span → Edit → Edit
 within at (Cut s) = Cut (span (s.from - at.from) (s.to - at.from))
 within at (Insert place text) = Insert (place - at.from) (if nat_le at.from place and nat_lt place at.to then text else [])
-
--- a text is written to the front of a room, or doesn't fit
-pub record IsFitted (text old new : List ℕ) (result : Result ℕ TooLong) : Type 0 where
-  pub len : IfOk result (λ n. n ≡ length text)
-  pub fits : OnOk result (length text ≤ length old)
-  pub written : IfOk result (λ n. new ≡ text ++ drop n old)
-  pub too_long : IfErr result (λ e. e.len ≡ min (length text) (2 ^ 64 - 1))
-  pub no_room : OnErr result (length old < length text)
-  pub refused : OnErr result (new ≡ old)
 
 -- the edits of a stamp
 abbrev pub edits_of_stamp : Stamp → List Edit
@@ -50,7 +34,7 @@ edits_of_stamp s = Cut s.received ∷ Insert s.rport_end s.port.bytes ∷ Insert
 
 abbrev pub is_taken : Taken → HeaderSpan → Bool
 is_taken Vias f = is_of kind.Via f
-is_taken Routes f = is_route f
+is_taken Routes f = is_of kind.Route f
 
 -- the fields of a joined text
 abbrev pub fields_text : Joined → List ℕ

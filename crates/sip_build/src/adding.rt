@@ -1,8 +1,9 @@
 //! One field more in a written text.
-ghost use Rattle.std.specs.Prelude.{◌≡◌, ◌≤◌, ◌<◌, ◌+◌, ◌++◌, drop, length, min, take, IfSome, IfOk, IfErr, OnOk, OnErr, IsTrue};
+ghost use Rattle.std.specs.Prelude.{◌≡◌, ◌≤◌, ◌<◌, ◌+◌, ◌++◌, drop, length, take, IfSome, IsTrue};
 ghost use Rattle.sip_words.specs.Spans.{IsWithin};
 ghost use Rattle.sip_scan.specs.Lines.{is_break, skipped, is_crlf};
 ghost use Rattle.sip_msg.specs.Basis.{first_from};
+ghost use Rattle.msg_edits.specs.Writing.{IsWritten};
 ghost use Rattle.sip_build.specs.Parts.{part};
 ghost use Rattle.sip_build.specs.WithField.{ends_before_empty, empty_line, with_field};
 
@@ -17,12 +18,7 @@ use sip_words::words::stands;
 pub fn append_field(out: &mut [u8], len: usize, b: &[u8], field: Span) -> Result<usize, TooLong>
     requires room { len ≤ length out.old }
     requires field { IsWithin b.now field }
-    ensures len { IfOk result (λ n. n ≡ length (with_field (take len out.old) (part b.now field))) }
-    ensures fits { OnOk result (length (with_field (take len out.old) (part b.now field)) ≤ length out.old) }
-    ensures written { IfOk result (λ n. out.new ≡ with_field (take len out.old) (part b.now field) ++ drop n out.old) }
-    ensures too_long { IfErr result (λ e. e.len ≡ min (length (with_field (take len out.old) (part b.now field))) usize.MAX) }
-    ensures no_room { OnErr result (length out.old < length (with_field (take len out.old) (part b.now field))) }
-    ensures refused { OnErr result (out.new ≡ out.old) }
+    ensures { IsWritten (with_field (take len out.old) (part b.now field)) out.old out.new result }
 {
     let bytes = &b[field.from..field.to];
     let Some(place) = empty_line(&out[..len]) else {

@@ -1,5 +1,5 @@
 //! The answers that the proxy makes (RFC 3261, section 8.2.6).
-ghost use Rattle.std.specs.Prelude.{◌≡◌, ◌≤◌, ◌<◌, ◌++◌, IfSome, codes, drop, length, min, take, IfOk, IfErr, OnOk, OnErr};
+ghost use Rattle.std.specs.Prelude.{◌≡◌, ◌≤◌, ◌++◌, IfSome, codes, length};
 ghost use Rattle.std.specs.Fmt.{decimal};
 ghost use Rattle.sip_scan.specs.declared.field.Kind.TheVariants as kind;
 ghost use Rattle.sip_msg.specs.Fields.{first};
@@ -7,7 +7,8 @@ ghost use Rattle.sip_msg.specs.Basis.{basis_of};
 ghost use Rattle.sip_msg.specs.Table.{Reads};
 ghost use Rattle.sip_msg.specs.Values.{name_addr_of};
 ghost use Rattle.sip_build.specs.Reply.{without_cookie, gives_tag, reply_tag, reply_to_field, reply_text, basis_reply_text};
-ghost use Rattle.sip_build.specs.Writing.{FieldsLie, EndsIn, RequestLies, IsFitted, answer_to, to_text};
+ghost use Rattle.msg_edits.specs.Writing.{IsWritten};
+ghost use Rattle.sip_build.specs.Writing.{FieldsLie, EndsIn, RequestLies, answer_to, to_text};
 
 use crate::addresses::push_number;
 use crate::fields::{field_text, first};
@@ -53,12 +54,7 @@ pub fn reply(
     out: &mut [u8],
 ) -> Result<usize, TooLong>
     requires { Reads b.now m.now }
-    ensures len { IfOk result (λ n. n ≡ length (reply_text b.now m.now from code reason.now)) }
-    ensures fits { OnOk result (length (reply_text b.now m.now from code reason.now) ≤ length out.old) }
-    ensures written { IfOk result (λ n. out.new ≡ reply_text b.now m.now from code reason.now ++ drop n out.old) }
-    ensures too_long { IfErr result (λ e. e.len ≡ min (length (reply_text b.now m.now from code reason.now)) usize.MAX) }
-    ensures no_room { OnErr result (length out.old < length (reply_text b.now m.now from code reason.now)) }
-    ensures refused { OnErr result (out.new ≡ out.old) }
+    ensures { IsWritten (reply_text b.now m.now from code reason.now) out.old out.new result }
 {
     let request = Request {
         b,
@@ -82,12 +78,7 @@ pub fn basis_reply(
     out: &mut [u8],
 ) -> Result<usize, TooLong>
     requires { basis_of b.now ≡ Some basis.now }
-    ensures len { IfOk result (λ n. n ≡ length (basis_reply_text b.now basis.now from code reason.now)) }
-    ensures fits { OnOk result (length (basis_reply_text b.now basis.now from code reason.now) ≤ length out.old) }
-    ensures written { IfOk result (λ n. out.new ≡ basis_reply_text b.now basis.now from code reason.now ++ drop n out.old) }
-    ensures too_long { IfErr result (λ e. e.len ≡ min (length (basis_reply_text b.now basis.now from code reason.now)) usize.MAX) }
-    ensures no_room { OnErr result (length out.old < length (basis_reply_text b.now basis.now from code reason.now)) }
-    ensures refused { OnErr result (out.new ≡ out.old) }
+    ensures { IsWritten (basis_reply_text b.now basis.now from code reason.now) out.old out.new result }
 {
     let request = Request {
         b,
@@ -102,7 +93,7 @@ impl<'a> Request<'a> {
     /// Writes the answer.
     fn answer(&self, from: Addr, code: u16, reason: &[u8], out: &mut [u8]) -> Result<usize, TooLong>
         requires { RequestLies self.now }
-        ensures { IsFitted (answer_to self.now from code reason.now) out.old out.new result }
+        ensures { IsWritten (answer_to self.now from code reason.now) out.old out.new result }
     {
         let status = status_front(code);
         let stamp = Stamp::of(self.via, from);

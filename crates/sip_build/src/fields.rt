@@ -1,41 +1,18 @@
 //! Header fields by their kinds.
 ghost use Rattle.std.specs.Prelude.{◌≡◌, IfSome};
-ghost use Rattle.sip_msg.specs.Fields.{is_kind, is_of, first};
-ghost use Rattle.sip_build.specs.Parts.{field_text, is_route, uri_of};
+ghost use Rattle.sip_msg.specs.Fields.{is_of, first};
+ghost use Rattle.sip_build.specs.Parts.{field_text, uri_of};
 ghost use Rattle.sip_build.specs.Writing.{FieldLies, FieldsLie};
 
 use sip_msg::{Span, Start};
 use sip_scan::{HeaderSpan, Kind};
-
-/// Whether these are one kind, of those that have a reader of their own.
-fn is_kind(kind: Kind, other: Kind) -> bool
-    ensures { result ≡ is_kind kind other }
-{
-    match kind {
-        Kind::Via => matches!(other, Kind::Via),
-        Kind::From => matches!(other, Kind::From),
-        Kind::To => matches!(other, Kind::To),
-        Kind::CallId => matches!(other, Kind::CallId),
-        Kind::CSeq => matches!(other, Kind::CSeq),
-        Kind::MaxForwards => matches!(other, Kind::MaxForwards),
-        Kind::ContentLength => matches!(other, Kind::ContentLength),
-        _ => false,
-    }
-}
 
 /// Whether the field is of this kind.
 #[tactic(auto, unfolding(sip_msg::specs::Fields::is_of))]
 pub fn is_of(field: &HeaderSpan, kind: Kind) -> bool
     ensures { result ≡ is_of kind field.now }
 {
-    is_kind(kind, field.kind)
-}
-
-/// Whether the field is Route.
-pub fn is_route(field: &HeaderSpan) -> bool
-    ensures { result ≡ is_route field.now }
-{
-    matches!(field.kind, Kind::Route)
+    kind.is_same(field.kind)
 }
 
 /// The first field of a kind of the message `b`.

@@ -1,5 +1,5 @@
 //! The request that goes on (RFC 3261, section 16.6).
-ghost use Rattle.std.specs.Prelude.{◌≡◌, ◌≤◌, ◌<◌, ◌+◌, ◌-◌, [], ◌∷◌, ◌++◌, codes, drop, length, map, min, take, IfSome, IfOk, IfErr, OnOk, OnErr};
+ghost use Rattle.std.specs.Prelude.{◌≡◌, ◌≤◌, ◌<◌, ◌+◌, ◌-◌, [], ◌∷◌, ◌++◌, codes, length, map, take, IfSome};
 ghost use Rattle.std.specs.Fmt.{decimal};
 ghost use Rattle.sip_words.specs.Spans.{IsWithin};
 ghost use Rattle.sip_scan.specs.declared.field.Kind.TheVariants as kind;
@@ -10,13 +10,14 @@ ghost use Rattle.sip_msg.specs.Table.{Reads};
 ghost use Rattle.numerals.specs.Numerals.{socket};
 ghost use Rattle.sip_build.specs.Parts.{place_of};
 ghost use Rattle.sip_build.specs.Forwarded.{number_in, one_less, with_hops, forwarded_text};
-ghost use Rattle.sip_build.specs.Writing.{SameEdits, FieldsLie, edits_of_hops};
+ghost use Rattle.msg_edits.specs.Writing.{IsWritten, SameEdits};
+ghost use Rattle.sip_build.specs.Writing.{FieldsLie, edits_of_hops};
 
 use crate::addresses::{push_ip, push_number, push_octet};
 use crate::fields::{first, uri_of};
 use crate::stamp::Stamp;
 use arrayvec::ArrayString;
-use msg_edits::{Change, Edits, TooLong, apply_after};
+use msg_edits::{Change, Edit, TooLong, apply_after};
 use outside_ports::Addr;
 use sip_msg::{Message, Span};
 use sip_scan::Kind;
@@ -32,7 +33,7 @@ pub fn forwarded(
     b: &[u8],
     m: &Message,
     from: Addr,
-    edits: &Edits,
+    edits: &[Edit],
     uri: &[u8],
     listen: Addr,
     branch: &[u8],
@@ -41,12 +42,7 @@ pub fn forwarded(
 ) -> Result<usize, TooLong>
     requires reading { Reads b.now m.now }
     requires hops { IfSome m.now.max_forwards (λ hops. 0 < hops) }
-    ensures len { IfOk result (λ n. n ≡ length (forwarded_text b.now m.now from edits.now uri.now listen branch.now absent_hops)) }
-    ensures fits { OnOk result (length (forwarded_text b.now m.now from edits.now uri.now listen branch.now absent_hops) ≤ length out.old) }
-    ensures written { IfOk result (λ n. out.new ≡ forwarded_text b.now m.now from edits.now uri.now listen branch.now absent_hops ++ drop n out.old) }
-    ensures too_long { IfErr result (λ e. e.len ≡ min (length (forwarded_text b.now m.now from edits.now uri.now listen branch.now absent_hops)) usize.MAX) }
-    ensures no_room { OnErr result (length out.old < length (forwarded_text b.now m.now from edits.now uri.now listen branch.now absent_hops)) }
-    ensures refused { OnErr result (out.new ≡ out.old) }
+    ensures { IsWritten (forwarded_text b.now m.now from edits.now uri.now listen branch.now absent_hops) out.old out.new result }
 {
     let stamp = Stamp::of(&m.via, from);
     let via = via_front(listen);

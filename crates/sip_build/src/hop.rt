@@ -1,9 +1,9 @@
 //! The requests that the proxy makes for a request that it sent.
-ghost use Rattle.std.specs.Prelude.{◌≡◌, ◌≤◌, ◌<◌, ◌+◌, ◌++◌, codes, drop, length, min, IfOk, IfErr, OnOk, OnErr};
+ghost use Rattle.std.specs.Prelude.{◌≡◌, ◌≤◌, ◌+◌, ◌++◌, codes, length};
 ghost use Rattle.std.specs.Fmt.{decimal};
 ghost use Rattle.sip_msg.specs.Table.{Reads};
 ghost use Rattle.sip_build.specs.Hop.{hop_request, ack_text, cancel_text};
-ghost use Rattle.sip_build.specs.Writing.{IsFitted};
+ghost use Rattle.msg_edits.specs.Writing.{IsWritten};
 
 use crate::fields::{field_text, uri_of};
 use crate::joined::{Joined, Taken};
@@ -28,12 +28,7 @@ pub fn ack(
 ) -> Result<usize, TooLong>
     requires request { Reads b.now m.now }
     requires answer { Reads answer.now am.now }
-    ensures len { IfOk result (λ n. n ≡ length (ack_text b.now m.now answer.now am.now)) }
-    ensures fits { OnOk result (length (ack_text b.now m.now answer.now am.now) ≤ length out.old) }
-    ensures written { IfOk result (λ n. out.new ≡ ack_text b.now m.now answer.now am.now ++ drop n out.old) }
-    ensures too_long { IfErr result (λ e. e.len ≡ min (length (ack_text b.now m.now answer.now am.now)) usize.MAX) }
-    ensures no_room { OnErr result (length out.old < length (ack_text b.now m.now answer.now am.now)) }
-    ensures refused { OnErr result (out.new ≡ out.old) }
+    ensures { IsWritten (ack_text b.now m.now answer.now am.now) out.old out.new result }
 {
     let to = field_text(answer, &am.head.fields, Kind::To);
     hop_request("ACK", b, m, to, out)
@@ -44,12 +39,7 @@ pub fn ack(
 #[tactic(auto, unfolding(crate::specs::Hop::cancel_text), using(crate::proofs::Readings::fields_lie))]
 pub fn cancel(b: &[u8], m: &Message, out: &mut [u8]) -> Result<usize, TooLong>
     requires { Reads b.now m.now }
-    ensures len { IfOk result (λ n. n ≡ length (cancel_text b.now m.now)) }
-    ensures fits { OnOk result (length (cancel_text b.now m.now) ≤ length out.old) }
-    ensures written { IfOk result (λ n. out.new ≡ cancel_text b.now m.now ++ drop n out.old) }
-    ensures too_long { IfErr result (λ e. e.len ≡ min (length (cancel_text b.now m.now)) usize.MAX) }
-    ensures no_room { OnErr result (length out.old < length (cancel_text b.now m.now)) }
-    ensures refused { OnErr result (out.new ≡ out.old) }
+    ensures { IsWritten (cancel_text b.now m.now) out.old out.new result }
 {
     let to = field_text(b, &m.head.fields, Kind::To);
     hop_request("CANCEL", b, m, to, out)
@@ -66,7 +56,7 @@ fn hop_request(
 ) -> Result<usize, TooLong>
     requires reading { Reads b.now m.now }
     requires short { length method.now ≤ 6 }
-    ensures { IsFitted (hop_request method.now b.now m.now to.now) out.old out.new result }
+    ensures { IsWritten (hop_request method.now b.now m.now to.now) out.old out.new result }
 {
     let uri = uri_of(m.start);
     let fields = m.head.fields.as_slice();

@@ -1,13 +1,13 @@
 //! A text that joins parts of messages.
-ghost use Rattle.std.specs.Prelude.{◌≡◌, ◌≤◌, ◌<◌, ℕ, List, ◌++◌, drop, length, map, min, slice_range, IfOk, IfErr, OnOk, OnErr};
+ghost use Rattle.std.specs.Prelude.{◌≡◌, ◌≤◌, ◌<◌, ℕ, List, ◌++◌, length, map, slice_range};
 ghost use Rattle.sip_words.specs.Spans.{IsWithin};
 ghost use Rattle.msg_edits.specs.Change.{edit_of};
 ghost use Rattle.msg_edits.specs.Edited.{edited, edited_from};
-ghost use Rattle.msg_edits.specs.Writing.{IsWritten};
-ghost use Rattle.sip_build.specs.Writing.{within, is_taken, fields_text, pieces_text, joined_text, FieldsLie, IsFitted};
+ghost use Rattle.msg_edits.specs.Writing.{IsWritten, IsWrittenSoFar};
+ghost use Rattle.sip_build.specs.Writing.{within, is_taken, fields_text, pieces_text, joined_text, FieldsLie};
 
-use crate::fields::{is_of, is_route};
-use msg_edits::{Change, Edits, TooLong, apply_after};
+use crate::fields::is_of;
+use msg_edits::{Change, TooLong, apply_after};
 use sip_msg::Span;
 use sip_scan::{HeaderSpan, Kind};
 
@@ -34,7 +34,7 @@ impl Joined<'_, '_, '_, '_, '_> {
     /// Writes the text to the front of `out`, and says how long it is. Where it doesn't fit, `out` stays as it was.
     pub fn fit(&self, out: &mut [u8]) -> Result<usize, TooLong>
         requires { FieldsLie self.now.b.now self.now.fields.now }
-        ensures { IsFitted (joined_text self.now) out.old out.new result }
+        ensures { IsWritten (joined_text self.now) out.old out.new result }
     {
         let len = self.write(&mut []);
         if len > out.len() {
@@ -47,7 +47,7 @@ impl Joined<'_, '_, '_, '_, '_> {
     /// the type.
     fn write(&self, out: &mut [u8]) -> usize
         requires { FieldsLie self.now.b.now self.now.fields.now }
-        ensures { IsWritten out.old out.new result (joined_text self.now) }
+        ensures { IsWrittenSoFar out.old out.new result (joined_text self.now) }
     {
         let len = put_all(out, 0, self.front);
         let len = self.put_fields(out, len);
@@ -57,7 +57,7 @@ impl Joined<'_, '_, '_, '_, '_> {
     /// Writes the fields.
     fn put_fields(&self, out: &mut [u8], len: usize) -> usize
         requires { FieldsLie self.now.b.now self.now.fields.now }
-        ensures { (room text : List ℕ) → IsWritten room out.old len text → IsWritten room out.new result (text ++ fields_text self.now) }
+        ensures { (room text : List ℕ) → IsWrittenSoFar room out.old len text → IsWrittenSoFar room out.new result (text ++ fields_text self.now) }
     {
         let mut end = len;
         for field in self.fields {
@@ -74,14 +74,14 @@ impl Joined<'_, '_, '_, '_, '_> {
     {
         match self.taken {
             Taken::Vias => is_of(field, Kind::Via),
-            Taken::Routes => is_route(field),
+            Taken::Routes => is_of(field, Kind::Route),
         }
     }
 }
 
 /// Writes the pieces one after the other.
 fn put_all(out: &mut [u8], len: usize, pieces: &[&[u8]]) -> usize
-    ensures { (room text : List ℕ) → IsWritten room out.old len text → IsWritten room out.new result (text ++ pieces_text pieces.now) }
+    ensures { (room text : List ℕ) → IsWrittenSoFar room out.old len text → IsWrittenSoFar room out.new result (text ++ pieces_text pieces.now) }
 {
     let mut end = len;
     for piece in pieces {
@@ -92,7 +92,7 @@ fn put_all(out: &mut [u8], len: usize, pieces: &[&[u8]]) -> usize
 
 /// Writes `piece` behind the first `len` bytes where it fits, and answers the length with it.
 fn put(out: &mut [u8], len: usize, piece: &[u8]) -> usize
-    ensures { (room text : List ℕ) → IsWritten room out.old len text → IsWritten room out.new result (text ++ piece.now) }
+    ensures { (room text : List ℕ) → IsWrittenSoFar room out.old len text → IsWrittenSoFar room out.new result (text ++ piece.now) }
 {
     let end = len.saturating_add(piece.len());
     if end <= out.len() {
@@ -104,7 +104,7 @@ fn put(out: &mut [u8], len: usize, piece: &[u8]) -> usize
 /// Writes what the part of `b` at `at` becomes after changes of `b`, without what is inserted at its end.
 fn put_part(out: &mut [u8], len: usize, b: &[u8], at: Span, changes: &[Change<'_>; 3]) -> usize
     requires { IsWithin b.now at }
-    ensures { (room text : List ℕ) → IsWritten room out.old len text → IsWritten room out.new result (text ++ edited_from (map edit_of changes.now) at.from (slice_range b.now at.from at.to)) }
+    ensures { (room text : List ℕ) → IsWrittenSoFar room out.old len text → IsWrittenSoFar room out.new result (text ++ edited_from (map edit_of changes.now) at.from (slice_range b.now at.from at.to)) }
 {
     let bytes = &b[at.from..at.to];
     let moved = all_within(changes, at);
@@ -113,7 +113,7 @@ fn put_part(out: &mut [u8], len: usize, b: &[u8], at: Span, changes: &[Change<'_
 
 /// Writes `bytes` after changes behind the first `len` bytes where they fit, and answers the length with them.
 fn put_edited(out: &mut [u8], len: usize, bytes: &[u8], changes: &[Change<'_>; 3]) -> usize
-    ensures { (room text : List ℕ) → IsWritten room out.old len text → IsWritten room out.new result (text ++ edited bytes.now (map edit_of changes.now)) }
+    ensures { (room text : List ℕ) → IsWrittenSoFar room out.old len text → IsWrittenSoFar room out.new result (text ++ edited bytes.now (map edit_of changes.now)) }
 {
     if len <= out.len() {
         len.saturating_add(write_edited(bytes, changes, &mut out[len..]))
@@ -124,9 +124,9 @@ fn put_edited(out: &mut [u8], len: usize, bytes: &[u8], changes: &[Change<'_>; 3
 
 /// Writes `bytes` after changes where they fit, and answers their length, held at the end of the type.
 fn write_edited(bytes: &[u8], changes: &[Change<'_>; 3], out: &mut [u8]) -> usize
-    ensures { IsWritten out.old out.new result (edited bytes.now (map edit_of changes.now)) }
+    ensures { IsWrittenSoFar out.old out.new result (edited bytes.now (map edit_of changes.now)) }
 {
-    match apply_after(bytes, changes, &Edits::new(), out) {
+    match apply_after(bytes, changes, &[], out) {
         Ok(len) => len,
         Err(TooLong { len }) => len,
     }

@@ -1,26 +1,27 @@
 //! The reply that goes back (RFC 3261, section 16.7).
-ghost use Rattle.std.specs.Prelude.{◌≡◌, ◌≤◌, ◌<◌, [], ◌∷◌, ◌++◌, drop, length, min, IfOk, IfErr, OnOk, OnErr};
+ghost use Rattle.std.specs.Prelude.{◌≡◌, ◌≤◌, ◌<◌, [], ◌∷◌, ◌++◌, length};
 ghost use Rattle.msg_edits.specs.declared.parts.Edit.TheVariants as edit;
 ghost use Rattle.sip_msg.specs.Table.{Reads};
 ghost use Rattle.sip_build.specs.Relayed.{without_top_via, relayed_text};
-ghost use Rattle.sip_build.specs.Writing.{SameEdits, FieldsLie};
+ghost use Rattle.msg_edits.specs.Writing.{IsWritten, SameEdits};
+ghost use Rattle.sip_build.specs.Writing.{FieldsLie};
 
 use crate::fields::first;
-use msg_edits::{Change, Edits, TooLong, apply_after};
+use msg_edits::{Change, Edit, TooLong, apply_after};
 use sip_msg::{Message, Span};
 use sip_scan::Kind;
 
 /// Writes the response `m` without its top Via value, and with the edits: the whole field is removed where it is its
 /// only value, else the value, its comma and the LWS after it. Bytes behind the end of the message are left out.
 #[tactic(auto, using(crate::proofs::Readings::fields_lie, crate::proofs::Readings::end_within))]
-pub fn relayed_reply(b: &[u8], m: &Message, edits: &Edits, out: &mut [u8]) -> Result<usize, TooLong>
+pub fn relayed_reply(
+    b: &[u8],
+    m: &Message,
+    edits: &[Edit],
+    out: &mut [u8],
+) -> Result<usize, TooLong>
     requires { Reads b.now m.now }
-    ensures len { IfOk result (λ n. n ≡ length (relayed_text b.now m.now edits.now)) }
-    ensures fits { OnOk result (length (relayed_text b.now m.now edits.now) ≤ length out.old) }
-    ensures written { IfOk result (λ n. out.new ≡ relayed_text b.now m.now edits.now ++ drop n out.old) }
-    ensures too_long { IfErr result (λ e. e.len ≡ min (length (relayed_text b.now m.now edits.now)) usize.MAX) }
-    ensures no_room { OnErr result (length out.old < length (relayed_text b.now m.now edits.now)) }
-    ensures refused { OnErr result (out.new ≡ out.old) }
+    ensures { IsWritten (relayed_text b.now m.now edits.now) out.old out.new result }
 {
     let top_via = Change::Cut(top_via(b, m));
     apply_after(&b[..m.end], &[top_via], edits, out)

@@ -3,7 +3,8 @@ ghost use Rattle.std.specs.Prelude.{◌≡◌, map, [], ◌∷◌};
 ghost use Rattle.msg_edits.specs.declared.parts.Edit.TheVariants as edit;
 ghost use Rattle.msg_edits.specs.Change.{edit_of};
 ghost use Rattle.sip_build.specs.Stamp.{without_received, with_port, is_source, wants_received, with_received, stamp};
-ghost use Rattle.sip_build.specs.Writing.{SameEdits, edits_of_stamp};
+ghost use Rattle.msg_edits.specs.Writing.{SameEdits};
+ghost use Rattle.sip_build.specs.Writing.{edits_of_stamp};
 
 use crate::addresses::{push_ip, push_number};
 use arrayvec::ArrayString;

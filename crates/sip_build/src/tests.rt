@@ -1,10 +1,12 @@
 //! Texts worked out by hand from the RFCs.
+use crate::fields::{field_text, first};
 use crate::{
     TooLong, ack, append_field, basis_reply, cancel, forwarded, relayed_reply, reply, reply_to,
 };
-use msg_edits::Edits;
+use msg_edits::{Edit, Edits};
 use outside_ports::Addr;
 use sip_msg::{Message, Span, read_basis};
+use sip_scan::Kind;
 use std::process::Abort;
 
 /// 192.0.2.1 with a port.
@@ -197,7 +199,7 @@ fn forwards(
     rt: &impl Abort,
     shows: &str,
     request: &'static [u8],
-    edits: &Edits,
+    edits: &[Edit],
     uri: &'static [u8],
     want: &'static [u8],
 ) {
@@ -228,7 +230,7 @@ fn forwarded_requests(rt: HostRuntime) {
         &rt,
         "one INVITE goes on",
         INVITE,
-        &Edits::new(),
+        &[],
         b"sip:b@192.0.2.9",
         b"INVITE sip:b@192.0.2.9 SIP/2.0\r\nVia: SIP/2.0/UDP 127.0.0.1:5060;branch=z9hG4bKrs00000000.0.0.0\r\nVia: SIP/2.0/UDP 192.0.2.1;branch=z9hG4bK6\r\nMax-Forwards: 69\r\nFrom: <sip:u@192.0.2.1>;tag=f\r\nTo: <sip:b@192.0.2.9>\r\nCall-ID: 6\r\nCSeq: 1 INVITE\r\nContent-Length: 0\r\n\r\n",
     );
@@ -236,7 +238,7 @@ fn forwarded_requests(rt: HostRuntime) {
         &rt,
         "Max-Forwards is absent, CR and LF stand in front, a stamp is due, and bytes behind the end are left out",
         b"\r\nMESSAGE sip:b@h SIP/2.0\r\nFrom: <sip:u@h>\r\nVia: SIP/2.0/UDP h;rport;branch=z9hG4bK6\r\nTo: <sip:b@h>\r\nCall-ID: 6\r\nCSeq: 1 MESSAGE\r\nContent-Length: 2\r\n\r\nabcd",
-        &Edits::new(),
+        &[],
         b"sip:c@192.0.2.10;x",
         b"\r\nMESSAGE sip:c@192.0.2.10;x SIP/2.0\r\nFrom: <sip:u@h>\r\nVia: SIP/2.0/UDP 127.0.0.1:5060;branch=z9hG4bKrs00000000.0.0.0\r\nVia: SIP/2.0/UDP h;rport=5060;branch=z9hG4bK6;received=192.0.2.1\r\nTo: <sip:b@h>\r\nCall-ID: 6\r\nCSeq: 1 MESSAGE\r\nContent-Length: 2\r\nMax-Forwards: 70\r\n\r\nab",
     );
@@ -244,7 +246,7 @@ fn forwarded_requests(rt: HostRuntime) {
         &rt,
         "the digits of Max-Forwards alone are replaced",
         b"MESSAGE sip:b@h SIP/2.0\r\nMax-Forwards :\r\n 010 \r\nVia: SIP/2.0/UDP 192.0.2.1;branch=z9hG4bK6\r\nFrom: <sip:u@h>\r\nTo: <sip:b@h>\r\nCall-ID: 6\r\nCSeq: 1 MESSAGE\r\n\r\n",
-        &Edits::new(),
+        &[],
         b"sip:b@h",
         b"MESSAGE sip:b@h SIP/2.0\r\nMax-Forwards :\r\n 9 \r\nVia: SIP/2.0/UDP 127.0.0.1:5060;branch=z9hG4bKrs00000000.0.0.0\r\nVia: SIP/2.0/UDP 192.0.2.1;branch=z9hG4bK6\r\nFrom: <sip:u@h>\r\nTo: <sip:b@h>\r\nCall-ID: 6\r\nCSeq: 1 MESSAGE\r\n\r\n",
     );
@@ -255,7 +257,7 @@ fn forwarded_requests(rt: HostRuntime) {
         &rt,
         "the edits of the script stand behind the line Via, in their order",
         INVITE,
-        &edits,
+        edits.as_slice(),
         b"sip:b@192.0.2.9",
         b"INVITE sip:b@192.0.2.9 SIP/2.0\r\nVia: SIP/2.0/UDP 127.0.0.1:5060;branch=z9hG4bKrs00000000.0.0.0\r\nA: 1\r\nB: 2\r\nVia: SIP/2.0/UDP 192.0.2.1;branch=z9hG4bK6\r\nMax-Forwards: 69\r\nFrom: <sip:u@192.0.2.1>;tag=f\r\nTo: <sip:b@192.0.2.9>\r\nCall-ID: 6\r\nCSeq: 1 INVITE\r\nContent-Length: 0\r\n\r\n",
     );
@@ -280,7 +282,7 @@ fn long_one(rt: &impl Abort, len: usize, want: Result<usize, TooLong>) {
                 request,
                 &m,
                 caller(5060),
-                &Edits::new(),
+                &[],
                 b"sip:b@192.0.2.9",
                 PROXY,
                 b"z9hG4bKrs00000000.0.0.0",
@@ -306,7 +308,7 @@ fn relays(
     rt: &impl Abort,
     shows: &str,
     response: &'static [u8],
-    edits: &Edits,
+    edits: &[Edit],
     want: &'static [u8],
 ) {
     match Message::read(response) {
@@ -325,14 +327,14 @@ fn relayed_replies(rt: HostRuntime) {
         &rt,
         "the whole field of an only value",
         b"SIP/2.0 200 OK\r\nVia: SIP/2.0/UDP 127.0.0.1:5060;branch=z9hG4bKrs\r\nVia: SIP/2.0/UDP 192.0.2.1;branch=z9hG4bK6\r\nFrom: <sip:u@h>\r\nTo: <sip:b@h>;tag=t\r\nCall-ID: 6\r\nCSeq: 1 INVITE\r\n\r\nbody",
-        &Edits::new(),
+        &[],
         b"SIP/2.0 200 OK\r\nVia: SIP/2.0/UDP 192.0.2.1;branch=z9hG4bK6\r\nFrom: <sip:u@h>\r\nTo: <sip:b@h>;tag=t\r\nCall-ID: 6\r\nCSeq: 1 INVITE\r\n\r\nbody",
     );
     relays(
         &rt,
         "the first of two values, with its comma and the LWS after it",
         b"SIP/2.0 180\r\nv:  SIP/2.0/UDP 127.0.0.1:5060 ,\r\n SIP/2.0/UDP 192.0.2.1\r\nFrom: <sip:u@h>\r\nTo: <sip:b@h>;tag=t\r\nCall-ID: 6\r\nCSeq: 1 INVITE\r\nContent-Length: 0\r\n\r\nbody",
-        &Edits::new(),
+        &[],
         b"SIP/2.0 180\r\nv:  SIP/2.0/UDP 192.0.2.1\r\nFrom: <sip:u@h>\r\nTo: <sip:b@h>;tag=t\r\nCall-ID: 6\r\nCSeq: 1 INVITE\r\nContent-Length: 0\r\n\r\n",
     );
     let mut edits = Edits::new();
@@ -343,7 +345,7 @@ fn relayed_replies(rt: HostRuntime) {
         b"SIP/2.0 404 Not Found\r\nVia: SIP/2.0/UDP 127.0.0.1;branch=z9hG4bKrs0;x=1\r\n\
 From: <sip:u@h>\r\n\
 To: <sip:b@h>;tag=t\r\nCall-ID: 6\r\nCSeq: 1 INVITE\r\n\r\n",
-        &edits,
+        edits.as_slice(),
         b"SIP/2.0 404 Not Found\r\nTo: <sip:b@h>;tag=t\r\nCall-ID: 6\r\nCSeq: 1 INVITE\r\n\r\n",
     );
 }
@@ -420,4 +422,43 @@ fn added_fields(rt: HostRuntime) {
     let result = append_field(&mut room, 5, field, whole);
     assert!(rt; result == Err(TooLong { len: 9 }));
     assert!(rt; &room == b"A\r\n\r\n..");
+}
+
+/// The first field of this kind in the message `text`, or no byte where it has none.
+#[tactic(auto, using(crate::proofs::Readings::fields_lie))]
+fn finds(rt: &impl Abort, text: &'static [u8], kind: Kind, want: &'static [u8]) {
+    match Message::read(text) {
+        Ok(m) => {
+            assert!(rt; field_text(text, &m.head.fields, kind) == want);
+            let found = first(text, &m.head.fields, kind);
+            assert!(rt; found.is_none() == want.is_empty());
+            assert!(rt; found.is_none_or(|field| field.kind == kind));
+        }
+        Err(_) => assert!(rt; false),
+    }
+}
+
+const ALL_KINDS: &[u8] =
+    b"INVITE sip:b@h SIP/2.0\r\nX: 1\r\nm: <sip:c1>\r\nVia: SIP/2.0/UDP h;branch=z9hG4bK1\r\nRecord-Route: <sip:r1;lr>\r\nroute: <sip:p1;lr>\r\nContact: <sip:c2>\r\nRoute: <sip:p2>\r\nMax-Forwards: 7\r\nf: <sip:u@h>;tag=f\r\nTo: <sip:b@h>\r\nCall-ID: k\r\nCSeq: 1 INVITE\r\nRecord-Route: <sip:r2>\r\nl: 0\r\n\r\n";
+
+#[test]
+fn fields_of_each_kind(rt: HostRuntime) {
+    let rows: [(Kind, &'static [u8]); 11] = [
+        (Kind::Via, b"Via: SIP/2.0/UDP h;branch=z9hG4bK1\r\n"),
+        (Kind::From, b"f: <sip:u@h>;tag=f\r\n"),
+        (Kind::To, b"To: <sip:b@h>\r\n"),
+        (Kind::CallId, b"Call-ID: k\r\n"),
+        (Kind::CSeq, b"CSeq: 1 INVITE\r\n"),
+        (Kind::MaxForwards, b"Max-Forwards: 7\r\n"),
+        (Kind::Route, b"route: <sip:p1;lr>\r\n"),
+        (Kind::RecordRoute, b"Record-Route: <sip:r1;lr>\r\n"),
+        (Kind::Contact, b"m: <sip:c1>\r\n"),
+        (Kind::ContentLength, b"l: 0\r\n"),
+        (Kind::Other, b"X: 1\r\n"),
+    ];
+    for (kind, want) in rows {
+        finds(&rt, ALL_KINDS, kind, want);
+    }
+    finds(&rt, BUSY, Kind::Route, b"");
+    finds(&rt, BUSY, Kind::Contact, b"");
 }

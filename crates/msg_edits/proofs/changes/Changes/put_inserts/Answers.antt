@@ -3,7 +3,7 @@ use Rattle.msg_edits.specs.Change.{edit_of}
 use Rattle.msg_edits.specs.Edited.{inserted_at}
 use Rattle.msg_edits.specs.Writing.{edits_of}
 use Rattle.msg_edits.proofs.Steps.{inserted_more}
-use Rattle.msg_edits.proofs.writing.Changes.put_inserts.Goals as goal
+use Rattle.msg_edits.proofs.changes.Changes.put_inserts.Goals as goal
 
 pub loop-i-preserved : goal.loop-i-preserved
 loop-i-preserved c = λ room text before.
