@@ -13,13 +13,14 @@ use Rattle.cfg_tree.specs.declared.script.Expr.TheViews.{roll-Expr}
 use Rattle.cfg_tree.specs.declared.script.Expr.TheFolds.{fold-roll-Expr, ind-Expr, map-Expr}
 use Rattle.cfg_tree.specs.declared.script.Script.{Script}
 use Rattle.cfg_tree.specs.Meaning.{RunTalk, State, WithValue, WithCode, Valued, Wanted, AsValue, AsTruth, Meant, Routes, put_code, settle, coded, called, linked, all_true, any_true, matched, expr_step, expr_of}
-use Rattle.cfg_code.specs.declared.instr.Instr.TheVariants.{Push, LastCode, Success, Call, Settle, Enter, Binary, Negate, Not, Truth, Match, AndThen, OrElse}
+use Rattle.cfg_code.specs.declared.instr.Instr.TheVariants.{Push, LoadCode, LoadSuccess, CallFunction, ExitOnZero, CallBlock, Binary, Negate, Not, ToBool, Match, JumpIfFalseOrPop, JumpIfTrueOrPop}
 use Rattle.cfg_code.specs.declared.code.Loaded.{Loaded}
 use Rattle.cfg_code.specs.declared.machine.Frame.{Frame}
+use Rattle.cfg_code.specs.declared.machine.Wait.TheVariants as wait
 use Rattle.cfg_code.specs.Code.{Text, called_text, arguments_code, link_text, links_text, and_text, ands_text, or_text, ors_text, expr_text, expr_code}
 use Rattle.cfg_code.specs.Machine.{changing}
 use Rattle.cfg_code.specs.Follows.{HasAt, Behaves}
-use Rattle.cfg_code.proofs.Places.{has_front, has_back, run_with, run_at, by_act, at_place, count_right, Each, Right, change_right}
+use Rattle.cfg_code.proofs.Places.{has_front, has_back, run_with, run_at, by_act, asked_behind, at_place, count_right, Each, Right, change_right}
 use Rattle.cfg_code.proofs.Parts.{part_right, arguments_right}
 
 module _ (loaded : Loaded) (d : ℕ) where
@@ -35,42 +36,48 @@ module _ (loaded : Loaded) (d : ℕ) where
 
   -- ---- calls
 
-  settle_right : (p : ℕ) (stack : List Val) (frames : List Frame) (next : WithCode) → slice_get loaded.code.instrs p ≡ Some Settle →
+  settle_right : (p : ℕ) (stack : List Val) (frames : List Frame) (next : WithCode) → slice_get loaded.code.instrs p ≡ Some ExitOnZero →
       ((n : ℤ) (s : State) → Behaves loaded (run_at (p + 1) stack frames d (put_code s n)) (next n (put_code s n))) →
       (n : ℤ) (s : State) → Behaves loaded (run_at p stack frames d (put_code s n)) (settle next n s)
-  settle_right p stack frames next has k (pos zero) s = by_act loaded (run_at p stack frames d (put_code s (pos zero))) Settle _ has refl
-  settle_right p stack frames next has k (pos (suc n)) s = by_act loaded (run_at p stack frames d (put_code s (pos (suc n)))) Settle _ has (k (pos (suc n)) s)
-  settle_right p stack frames next has k (negsuc n) s = by_act loaded (run_at p stack frames d (put_code s (negsuc n))) Settle _ has (k (negsuc n) s)
+  settle_right p stack frames next has k (pos zero) s = by_act loaded (run_at p stack frames d (put_code s (pos zero))) ExitOnZero _ has (_, refl, refl)
+  settle_right p stack frames next has k (pos (suc n)) s = by_act loaded (run_at p stack frames d (put_code s (pos (suc n)))) ExitOnZero _ has (k (pos (suc n)) s)
+  settle_right p stack frames next has k (negsuc n) s = by_act loaded (run_at p stack frames d (put_code s (negsuc n))) ExitOnZero _ has (k (negsuc n) s)
 
   coded_right : (c : Text) (call : WithCode → State → RunTalk) → RightCall c call → RightMeant (called_text c) (coded call)
   coded_right c call rc AsValue p stack frames s next has k =
       let code = loaded.code.instrs in
       let h = has_back code (p + 1) c _ has.1 in
-      let len : p + 1 + length c + 1 + 1 ≡ p + length (called_text c AsValue) = omega (arith, length-append c (Settle ∷ LastCode ∷ [])) in
+      let len : p + 1 + length c + 1 + 1 ≡ p + length (called_text c AsValue) = omega (arith, length-append c (ExitOnZero ∷ LoadCode ∷ [])) in
       count_right loaded d p stack frames _ has.0 (λ s1.
       rc (p + 1) stack frames s1 _ (has_front code (p + 1) c _ has.1)
       (settle_right (p + 1 + length c) stack frames (λ n. next (val.Int n)) h.0 (λ n s2.
-      by_act loaded (run_at (p + 1 + length c + 1) stack frames d (put_code s2 n)) LastCode _ h.1.0
+      by_act loaded (run_at (p + 1 + length c + 1) stack frames d (put_code s2 n)) LoadCode _ h.1.0
       (at_place loaded [] _ _ (val.Int n ∷ stack) frames d (put_code s2 n) _ len (k (val.Int n) (put_code s2 n)))))) s
   coded_right c call rc AsTruth p stack frames s next has k =
       let code = loaded.code.instrs in
       let h = has_back code (p + 1) c _ has.1 in
-      let len : p + 1 + length c + 1 + 1 ≡ p + length (called_text c AsTruth) = omega (arith, length-append c (Settle ∷ Success ∷ [])) in
+      let len : p + 1 + length c + 1 + 1 ≡ p + length (called_text c AsTruth) = omega (arith, length-append c (ExitOnZero ∷ LoadSuccess ∷ [])) in
       count_right loaded d p stack frames _ has.0 (λ s1.
       rc (p + 1) stack frames s1 _ (has_front code (p + 1) c _ has.1)
       (settle_right (p + 1 + length c) stack frames (λ n. next (bit (int_lt (pos 0) n))) h.0 (λ n s2.
-      by_act loaded (run_at (p + 1 + length c + 1) stack frames d (put_code s2 n)) Success _ h.1.0
+      by_act loaded (run_at (p + 1 + length c + 1) stack frames d (put_code s2 n)) LoadSuccess _ h.1.0
       (at_place loaded [] _ _ (bit (int_lt (pos 0) n) ∷ stack) frames d (put_code s2 n) _ len (k (bit (int_lt (pos 0) n)) (put_code s2 n)))))) s
 
-  function_right : (f : Func) (args : List (List Part)) → RightCall (arguments_code args ++ Call f ∷ []) (called f args)
+  function_right : (f : Func) (args : List (List Part)) → RightCall (arguments_code args ++ CallFunction f ∷ []) (called f args)
   function_right f args p stack frames s back has k =
       let code = loaded.code.instrs in
       let c = arguments_code args in
-      let at = (has_back code p c (Call f ∷ []) has).0 in
-      let len : p + length c + 1 ≡ p + length (c ++ Call f ∷ []) = omega (arith, length-append c (Call f ∷ [])) in
+      let at = (has_back code p c (CallFunction f ∷ []) has).0 in
+      let len : p + length c + 1 ≡ p + length (c ++ CallFunction f ∷ []) = omega (arith, length-append c (CallFunction f ∷ [])) in
       arguments_right loaded d args [] p stack frames s _ (has_front code p c _ has) (λ vs s2.
-      by_act loaded (run_with vs (p + length c) stack frames d s2) (Call f) _ at
-      (_, refl, λ answer. at_place loaded [] _ _ stack frames d (put_code s2 (told_code answer)) _ len (k (told_code answer) s2)))
+      by_act loaded (run_with vs (p + length c) stack frames d s2) (CallFunction f) _ at (
+        _,
+        _,
+        refl,
+        asked_behind loaded (record (run_with vs (p + length c + 1) stack frames d s2) { wait = wait.Code }) (p + length c) (CallFunction f) refl at,
+        tt,
+        λ answer. at_place loaded [] _ _ stack frames d (put_code s2 (told_code answer)) _ len (k (told_code answer) s2),
+      ))
 
   -- ---- operands of one level
 
@@ -116,9 +123,9 @@ module _ (loaded : Loaded) (d : ℕ) where
       let code = loaded.code.instrs in
       let a = t AsTruth in
       let c = and_text a in
-      let skip : p + (1 + (length a + 1)) ≡ p + length c = omega (arith, length-append a (Truth ∷ [])) in
+      let skip : p + 1 + (length a + 1) ≡ p + length c = omega (arith, length-append a (ToBool ∷ [])) in
       let len : p + length c + length (ands_text ts) ≡ p + length (c ++ ands_text ts) = omega (arith, length-append c (ands_text ts)) in
-      by_act loaded (run_at p (bit false ∷ stack) frames d s) (AndThen (length a + 1)) _ has.0
+      by_act loaded (run_at p (bit false ∷ stack) frames d s) (JumpIfFalseOrPop (length a + 1)) _ has.0
       (at_place loaded [] _ _ (bit false ∷ stack) frames d s _ skip
       (ands_false ts (p + length c) stack frames next (has_back code p c (ands_text ts) has) (λ v s. at_place loaded [] _ _ (v ∷ stack) frames d s _ len (k v s)) s))
 
@@ -134,13 +141,13 @@ module _ (loaded : Loaded) (d : ℕ) where
       let c = and_text a in
       let h = has_front code p c (ands_text ts) has in
       let h2 = has_back code p c (ands_text ts) has in
-      let at = (has_back code (p + 1) a (Truth ∷ []) h.1).0 in
-      let one : p + 1 + length a + 1 ≡ p + length c = omega (arith, length-append a (Truth ∷ [])) in
+      let at = (has_back code (p + 1) a (ToBool ∷ []) h.1).0 in
+      let one : p + 1 + length a + 1 ≡ p + length c = omega (arith, length-append a (ToBool ∷ [])) in
       let len : p + length c + length (ands_text ts) ≡ p + length (c ++ ands_text ts) = omega (arith, length-append c (ands_text ts)) in
       let k2 : (v : Val) (s : State) → Behaves loaded (run_at (p + length c + length (ands_text ts)) (v ∷ stack) frames d s) (next v s) = λ v s. at_place loaded [] _ _ (v ∷ stack) frames d s _ len (k v s) in
-      by_act loaded (run_at p (bit true ∷ stack) frames d s) (AndThen (length a + 1)) _ has.0
+      by_act loaded (run_at p (bit true ∷ stack) frames d s) (JumpIfFalseOrPop (length a + 1)) _ has.0
       (each.0 AsTruth (p + 1) stack frames s _ (has_front code (p + 1) a _ h.1) (λ v s2.
-      by_act loaded (run_at (p + 1 + length a) (v ∷ stack) frames d s2) Truth _ at
+      by_act loaded (run_at (p + 1 + length a) (v ∷ stack) frames d s2) ToBool _ at
       (at_place loaded [] _ _ (bit (is_true v) ∷ stack) frames d s2 _ one
       (elim (is_true v) as (λ b. Behaves loaded (run_at (p + length c) (bit b ∷ stack) frames d s2) (if b then all_true ms next s2 else next (bit false) s2)) [
         | true ↦ ands_right ts ms each.1 (p + length c) stack frames next h2 k2 s2
@@ -156,9 +163,9 @@ module _ (loaded : Loaded) (d : ℕ) where
       let code = loaded.code.instrs in
       let a = t AsTruth in
       let c = or_text a in
-      let skip : p + (1 + (length a + 1)) ≡ p + length c = omega (arith, length-append a (Truth ∷ [])) in
+      let skip : p + 1 + (length a + 1) ≡ p + length c = omega (arith, length-append a (ToBool ∷ [])) in
       let len : p + length c + length (ors_text ts) ≡ p + length (c ++ ors_text ts) = omega (arith, length-append c (ors_text ts)) in
-      by_act loaded (run_at p (bit true ∷ stack) frames d s) (OrElse (length a + 1)) _ has.0
+      by_act loaded (run_at p (bit true ∷ stack) frames d s) (JumpIfTrueOrPop (length a + 1)) _ has.0
       (at_place loaded [] _ _ (bit true ∷ stack) frames d s _ skip
       (ors_true ts (p + length c) stack frames next (has_back code p c (ors_text ts) has) (λ v s. at_place loaded [] _ _ (v ∷ stack) frames d s _ len (k v s)) s))
 
@@ -174,13 +181,13 @@ module _ (loaded : Loaded) (d : ℕ) where
       let c = or_text a in
       let h = has_front code p c (ors_text ts) has in
       let h2 = has_back code p c (ors_text ts) has in
-      let at = (has_back code (p + 1) a (Truth ∷ []) h.1).0 in
-      let one : p + 1 + length a + 1 ≡ p + length c = omega (arith, length-append a (Truth ∷ [])) in
+      let at = (has_back code (p + 1) a (ToBool ∷ []) h.1).0 in
+      let one : p + 1 + length a + 1 ≡ p + length c = omega (arith, length-append a (ToBool ∷ [])) in
       let len : p + length c + length (ors_text ts) ≡ p + length (c ++ ors_text ts) = omega (arith, length-append c (ors_text ts)) in
       let k2 : (v : Val) (s : State) → Behaves loaded (run_at (p + length c + length (ors_text ts)) (v ∷ stack) frames d s) (next v s) = λ v s. at_place loaded [] _ _ (v ∷ stack) frames d s _ len (k v s) in
-      by_act loaded (run_at p (bit false ∷ stack) frames d s) (OrElse (length a + 1)) _ has.0
+      by_act loaded (run_at p (bit false ∷ stack) frames d s) (JumpIfTrueOrPop (length a + 1)) _ has.0
       (each.0 AsTruth (p + 1) stack frames s _ (has_front code (p + 1) a _ h.1) (λ v s2.
-      by_act loaded (run_at (p + 1 + length a) (v ∷ stack) frames d s2) Truth _ at
+      by_act loaded (run_at (p + 1 + length a) (v ∷ stack) frames d s2) ToBool _ at
       (at_place loaded [] _ _ (bit (is_true v) ∷ stack) frames d s2 _ one
       (elim (is_true v) as (λ b. Behaves loaded (run_at (p + length c) (bit b ∷ stack) frames d s2) (if b then next (bit true) s2 else any_true ms next s2)) [
         | true ↦ ors_true ts (p + length c) stack frames next h2 k2 s2
@@ -198,7 +205,7 @@ module _ (loaded : Loaded) (d : ℕ) where
 
   module _ (script : Script) (patterns : loaded.patterns ≡ script.patterns) (route : Routes) where
     abbrev pub RightRoute : Type 0
-    RightRoute = (b : ℕ) → RightCall (Enter b ∷ []) (route b)
+    RightRoute = (b : ℕ) → RightCall (CallBlock b ∷ []) (route b)
 
     abbrev Fine : Expr → Type 0
     Fine e = RightMeant (expr_code e) (expr_of script route e)
@@ -230,8 +237,8 @@ module _ (loaded : Loaded) (d : ℕ) where
     layer r (Expr-F.Int n) = λ w p stack frames s next has k. by_act loaded (run_at p stack frames d s) (Push (val.Int n)) _ has.0 (k _ s)
     layer r (Expr-F.Text t) = λ w p stack frames s next has k. by_act loaded (run_at p stack frames d s) (Push (limited t)) _ has.0 (k _ s)
     layer r (Expr-F.Read x) = λ w. part_right loaded d x []
-    layer r (Expr-F.Call f args) = coded_right (arguments_code args ++ Call f ∷ []) (called f args) (function_right f args)
-    layer r (Expr-F.Route b) = coded_right (Enter b ∷ []) (route b) (r b)
+    layer r (Expr-F.Call f args) = coded_right (arguments_code args ++ CallFunction f ∷ []) (called f args) (function_right f args)
+    layer r (Expr-F.Route b) = coded_right (CallBlock b ∷ []) (route b) (r b)
     layer r (Expr-F.Not a) = λ w. change_right loaded d [] Not (λ v. bit (not (is_true v))) (λ r. refl) (expr_code a.0 AsTruth) (expr_of script route a.0 AsTruth) (a.1 AsTruth)
     layer r (Expr-F.Negative a) = λ w. change_right loaded d [] Negate negated (λ r. refl) (expr_code a.0 AsValue) (expr_of script route a.0 AsValue) (a.1 AsValue)
     layer r (Expr-F.Chain a cs) = λ w. chain_right (expr_code a.0 AsValue) (expr_of script route a.0 AsValue) (a.1 AsValue) (link_texts cs) (link_meants cs) (operands_right cs)

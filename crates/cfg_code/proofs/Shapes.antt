@@ -21,8 +21,8 @@ use Rattle.cfg_tree.specs.declared.script.Stmt.TheViews.{roll-Stmt}
 use Rattle.cfg_tree.specs.declared.script.Stmt.TheFolds.{fold-roll-Stmt, ind-Stmt, map-Stmt}
 use Rattle.cfg_tree.specs.Meaning.{Wanted, AsValue, AsTruth}
 use Rattle.cfg_code.specs.declared.instr.Instr.{Instr}
-use Rattle.cfg_code.specs.declared.instr.Instr.TheVariants.{Push, Load, LastCode, Success, Store, Read, ReadItem, Write, WriteItem, Transform, Append, Limit, Argument, Call, Settle, Enter, Binary, Negate, Not, Truth, Match, AndThen, OrElse, Forget, Count, PassUnless, Pass, Begin, Round, Again, Finish, Return, Exit, Drop, EndBlock}
-use Rattle.cfg_code.specs.Code.{Text, joined, appended, appends, expansion_text, part_text, part_code, expansion_code, wanted_text, called_text, argument_text, arguments_code, link_text, links_text, and_text, ands_text, or_text, ors_text, expr_text, expr_code, set_text, if_text, while_text, case_text, cases_text, switch_text, return_text, stmt_text, stmt_code, list_code, block_code}
+use Rattle.cfg_code.specs.declared.instr.Instr.TheVariants.{Push, Load, LoadCode, LoadSuccess, Store, Read, ReadItem, Write, WriteItem, Transform, Concat, PushArgument, CallFunction, ExitOnZero, CallBlock, Binary, Negate, Not, ToBool, Match, JumpIfFalseOrPop, JumpIfTrueOrPop, Pop, CountStatement, JumpIfFalse, Jump, BeginLoop, BeginRound, LoopBack, EndLoop, Return, Exit, Drop, EndBlock}
+use Rattle.cfg_code.specs.Code.{Text, joined, concat_text, concats, expansion_text, part_text, part_code, expansion_code, wanted_text, called_text, argument_text, arguments_code, link_text, links_text, and_text, ands_text, or_text, ors_text, expr_text, expr_code, set_text, if_text, while_text, case_text, cases_text, switch_text, return_text, stmt_text, stmt_code, list_code, block_code}
 use Rattle.cfg_code.specs.Sound.{Shape, nothing, Leads, Moves, IsFine, AreFine, Shaped}
 
 abbrev at : ℕ → ℕ → Shape
@@ -74,17 +74,16 @@ change i is c lc h l = seq c (i ∷ []) (at h l) (at (1 + h) l) (at (1 + h) l) (
 
 -- ---- expanded texts
 
-appends_fit : (ts : List Text) → Every Leaves ts → (h l : ℕ) → Fits (appends ts) (at (1 + h) l) (at (1 + h) l)
-appends_fit [] every h l = λ behind g. (behind, refl, g)
-appends_fit (t ∷ ts) every h l =
-    seq (appended t) (appends ts) (at (1 + h) l) (at (1 + h) l) (at (1 + h) l)
-    (seq t (Append ∷ []) (at (1 + h) l) (at (1 + (1 + h)) l) (at (1 + h) l) (every.0 (1 + h) l) (move Append 2 1 h (1 + (1 + h)) (1 + h) l (λ s b m. m) (omega arith) refl))
-    (appends_fit ts every.1 h l)
+concats_fit : (ts : List Text) → Every Leaves ts → (h l : ℕ) → Fits (concats ts) (at (1 + h) l) (at (1 + h) l)
+concats_fit [] every h l = λ behind g. (behind, refl, g)
+concats_fit (t ∷ ts) every h l =
+    seq (concat_text t) (concats ts) (at (1 + h) l) (at (1 + h) l) (at (1 + h) l)
+    (seq t (Concat ∷ []) (at (1 + h) l) (at (1 + (1 + h)) l) (at (1 + h) l) (every.0 (1 + h) l) (move Concat 2 1 h (1 + (1 + h)) (1 + h) l (λ s b m. m) (omega arith) refl))
+    (concats_fit ts every.1 h l)
 
 texts_fit : (ts : List Text) → Every Leaves ts → Leaves (expansion_text ts)
 texts_fit ts every h l =
-    seq (Push (val.Text []) ∷ []) (appends ts ++ Limit ∷ []) (at h l) (at (1 + h) l) (at (1 + h) l) (leaf (Push (val.Text [])) (λ s b m. m) h l)
-    (seq (appends ts) (Limit ∷ []) (at (1 + h) l) (at (1 + h) l) (at (1 + h) l) (appends_fit ts every h l) (move Limit 1 1 h (1 + h) (1 + h) l (λ s b m. m) refl refl))
+    seq (Push (val.Text []) ∷ []) (concats ts) (at h l) (at (1 + h) l) (at (1 + h) l) (leaf (Push (val.Text [])) (λ s b m. m) h l) (concats_fit ts every h l)
 
 abbrev PartFits : Part → Type 0
 PartFits x = Leaves (part_code x)
@@ -99,7 +98,7 @@ part_pairs (y ∷ ys) = (y.1, part_pairs ys)
 part_layer : (y : Part-F ((x : Part) × PartFits x)) → Leaves (part_text (map-Part _ _ part_code (map-Part _ _ (λ e. e.0) y)))
 part_layer (Part-F.Text t) = leaf (Push (val.Text t)) (λ s b m. m)
 part_layer (Part-F.Var x) = leaf (Load x) (λ s b m. m)
-part_layer Part-F.Code = leaf LastCode (λ s b m. m)
+part_layer Part-F.Code = leaf LoadCode (λ s b m. m)
 part_layer (Part-F.Host x) = leaf (Read x) (λ s b m. m)
 part_layer (Part-F.Item way t key) = change (ReadItem way t) (λ s b m. m) (expansion_text (part_texts key)) (texts_fit (part_texts key) (part_pairs key))
 part_layer (Part-F.Transformed tr x) = change (Transform tr) (λ s b m. m) (part_code x.0) x.1
@@ -120,23 +119,23 @@ arguments_fit : (xs : List (List Part)) (h l : ℕ) → Fits (arguments_code xs)
 arguments_fit [] h l = λ behind g. (behind, refl, g)
 arguments_fit (x ∷ xs) h l =
     seq (argument_text (expansion_code x)) (arguments_code xs) (at h l) (at h l) (at h l)
-    (seq (expansion_code x) (Argument ∷ []) (at h l) (at (1 + h) l) (at h l) (expansion_fits x h l) (move Argument 1 0 h (1 + h) h l (λ s b m. m) refl (omega arith)))
+    (seq (expansion_code x) (PushArgument ∷ []) (at h l) (at (1 + h) l) (at h l) (expansion_fits x h l) (move PushArgument 1 0 h (1 + h) h l (λ s b m. m) refl (omega arith)))
     (arguments_fit xs h l)
 
 -- ---- expressions
 
 wanted_fits : (w : Wanted) → Leaves (wanted_text w ∷ [])
-wanted_fits AsValue = leaf LastCode (λ s b m. m)
-wanted_fits AsTruth = leaf Success (λ s b m. m)
+wanted_fits AsValue = leaf LoadCode (λ s b m. m)
+wanted_fits AsTruth = leaf LoadSuccess (λ s b m. m)
 
 still : (i : Instr) → ((s : Shape) (behind : List Shape) → Moves 0 0 s behind → IsFine i s behind) → (h l : ℕ) → Fits (i ∷ []) (at h l) (at h l)
 still i is h l = move i 0 0 h h h l is (omega arith) (omega arith)
 
 called_fits : (c : Text) → ((h l : ℕ) → Fits c (at h l) (at h l)) → (w : Wanted) → Leaves (called_text c w)
 called_fits c fc w h l =
-    seq (Count ∷ []) (c ++ Settle ∷ wanted_text w ∷ []) (at h l) (at h l) (at (1 + h) l) (still Count (λ s b m. m) h l)
-    (seq c (Settle ∷ wanted_text w ∷ []) (at h l) (at h l) (at (1 + h) l) (fc h l)
-    (seq (Settle ∷ []) (wanted_text w ∷ []) (at h l) (at h l) (at (1 + h) l) (still Settle (λ s b m. m) h l) (wanted_fits w h l)))
+    seq (CountStatement ∷ []) (c ++ ExitOnZero ∷ wanted_text w ∷ []) (at h l) (at h l) (at (1 + h) l) (still CountStatement (λ s b m. m) h l)
+    (seq c (ExitOnZero ∷ wanted_text w ∷ []) (at h l) (at h l) (at (1 + h) l) (fc h l)
+    (seq (ExitOnZero ∷ []) (wanted_text w ∷ []) (at h l) (at h l) (at (1 + h) l) (still ExitOnZero (λ s b m. m) h l) (wanted_fits w h l)))
 
 function_fits : (xs : List (List Part)) (i : Instr) → ((s : Shape) (behind : List Shape) → Moves 0 0 s behind → IsFine i s behind) → (h l : ℕ) → Fits (arguments_code xs ++ i ∷ []) (at h l) (at h l)
 function_fits xs i is h l = seq (arguments_code xs) (i ∷ []) (at h l) (at h l) (at h l) (arguments_fit xs h l) (still i is h l)
@@ -152,22 +151,22 @@ links_fit (c ∷ cs) every h l =
     (links_fit cs every.1 h l)
 
 -- an operand of `&&` or `||`, which is passed where the value before it stays
-passing_fits : (i : Instr) (a : Text) → ((s : Shape) (behind : List Shape) → Moves 1 0 s behind × Leads behind (length a + 1) s → IsFine i s behind) → Leaves a → (h l : ℕ) → Fits (i ∷ (a ++ Truth ∷ [])) (at (1 + h) l) (at (1 + h) l)
+passing_fits : (i : Instr) (a : Text) → ((s : Shape) (behind : List Shape) → Moves 1 0 s behind × Leads behind (length a + 1) s → IsFine i s behind) → Leaves a → (h l : ℕ) → Fits (i ∷ (a ++ ToBool ∷ [])) (at (1 + h) l) (at (1 + h) l)
 passing_fits i a is la h l behind g =
-    let t = a ++ Truth ∷ [] in
-    let R = seq a (Truth ∷ []) (at h l) (at (1 + h) l) (at (1 + h) l) (la h l) (move Truth 1 1 h (1 + h) (1 + h) l (λ s b m. m) refl refl) behind g in
-    let long : length a + 1 ≡ length t + 0 = omega (arith, length-append a (Truth ∷ [])) in
+    let t = a ++ ToBool ∷ [] in
+    let R = seq a (ToBool ∷ []) (at h l) (at (1 + h) l) (at (1 + h) l) (la h l) (move ToBool 1 1 h (1 + h) (1 + h) l (λ s b m. m) refl refl) behind g in
+    let long : length a + 1 ≡ length t + 0 = omega (arith, length-append a (ToBool ∷ [])) in
     (at (1 + h) l ∷ R.0, (is (at (1 + h) l) R.0 ((h, h, refl, omega arith, R.2), passed t R.0 behind 0 (length a + 1) R.1 long ∙ g), R.1), refl)
 
 ands_fit : (ts : List (Wanted → Text)) → Every Operand ts → (h l : ℕ) → Fits (ands_text ts) (at (1 + h) l) (at (1 + h) l)
 ands_fit [] every h l = λ behind g. (behind, refl, g)
 ands_fit (t ∷ ts) every h l = seq (and_text (t AsTruth)) (ands_text ts) (at (1 + h) l) (at (1 + h) l) (at (1 + h) l)
-    (passing_fits (AndThen (length (t AsTruth) + 1)) (t AsTruth) (λ s b m. m) (every.0 AsTruth) h l) (ands_fit ts every.1 h l)
+    (passing_fits (JumpIfFalseOrPop (length (t AsTruth) + 1)) (t AsTruth) (λ s b m. m) (every.0 AsTruth) h l) (ands_fit ts every.1 h l)
 
 ors_fit : (ts : List (Wanted → Text)) → Every Operand ts → (h l : ℕ) → Fits (ors_text ts) (at (1 + h) l) (at (1 + h) l)
 ors_fit [] every h l = λ behind g. (behind, refl, g)
 ors_fit (t ∷ ts) every h l = seq (or_text (t AsTruth)) (ors_text ts) (at (1 + h) l) (at (1 + h) l) (at (1 + h) l)
-    (passing_fits (OrElse (length (t AsTruth) + 1)) (t AsTruth) (λ s b m. m) (every.0 AsTruth) h l) (ors_fit ts every.1 h l)
+    (passing_fits (JumpIfTrueOrPop (length (t AsTruth) + 1)) (t AsTruth) (λ s b m. m) (every.0 AsTruth) h l) (ors_fit ts every.1 h l)
 
 pushed_fits : (v : Val) (c : Text) → ((h l : ℕ) → Fits c (at (1 + h) l) (at (1 + h) l)) → Leaves (Push v ∷ c)
 pushed_fits v c fc h l = seq (Push v ∷ []) c (at h l) (at (1 + h) l) (at (1 + h) l) (leaf (Push v) (λ s b m. m) h l) (fc h l)
@@ -196,8 +195,8 @@ expr_layer : (y : Expr-F ((e : Expr) × ExprFits e)) → Operand (expr_text (map
 expr_layer (Expr-F.Int n) = λ w. leaf (Push (val.Int n)) (λ s b m. m)
 expr_layer (Expr-F.Text t) = λ w. leaf (Push (limited t)) (λ s b m. m)
 expr_layer (Expr-F.Read x) = λ w. part_fits x
-expr_layer (Expr-F.Call f args) = called_fits (arguments_code args ++ Call f ∷ []) (function_fits args (Call f) (λ s b m. m))
-expr_layer (Expr-F.Route b) = called_fits (Enter b ∷ []) (still (Enter b) (λ s b m. m))
+expr_layer (Expr-F.Call f args) = called_fits (arguments_code args ++ CallFunction f ∷ []) (function_fits args (CallFunction f) (λ s b m. m))
+expr_layer (Expr-F.Route b) = called_fits (CallBlock b ∷ []) (still (CallBlock b) (λ s b m. m))
 expr_layer (Expr-F.Not a) = λ w. change Not (λ s b m. m) (expr_code a.0 AsTruth) (a.1 AsTruth)
 expr_layer (Expr-F.Negative a) = λ w. change Negate (λ s b m. m) (expr_code a.0 AsValue) (a.1 AsValue)
 expr_layer (Expr-F.Chain a cs) = λ w. chain_fits (expr_code a.0 AsValue) (a.1 AsValue) (link_texts cs) (link_pairs cs)
@@ -219,8 +218,8 @@ joined_fits (t ∷ ts) every l = seq t (joined ts) (at 0 l) (at 0 l) (at 0 l) (e
 take_fits : (i : Instr) → ((s : Shape) (behind : List Shape) → Moves 1 0 s behind → IsFine i s behind) → (c : Text) → Leaves c → Keeps (c ++ i ∷ [])
 take_fits i is c lc l = seq c (i ∷ []) (at 0 l) (at 1 l) (at 0 l) (lc 0 l) (move i 1 0 0 1 0 l is refl refl)
 
-counted_fits : (c : Text) → Keeps c → Keeps (Count ∷ c)
-counted_fits c kc l = seq (Count ∷ []) c (at 0 l) (at 0 l) (at 0 l) (still Count (λ s b m. m) 0 l) (kc l)
+counted_fits : (c : Text) → Keeps c → Keeps (CountStatement ∷ c)
+counted_fits c kc l = seq (CountStatement ∷ []) c (at 0 l) (at 0 l) (at 0 l) (still CountStatement (λ s b m. m) 0 l) (kc l)
 
 set_fits : (x : Target) (c : Text) → Leaves c → Keeps (set_text x c)
 set_fits (target.Var x) c lc = counted_fits (c ++ Store x ∷ []) (take_fits (Store x) (λ s b m. m) c lc)
@@ -230,20 +229,20 @@ set_fits (target.Item way t key) c lc = counted_fits (expansion_code key ++ (c +
     (seq c (WriteItem way t ∷ []) (at 1 l) (at 2 l) (at 0 l) (lc 1 l) (move (WriteItem way t) 2 0 0 2 0 l (λ s b m. m) refl refl)))
 
 if_fits : (c a b : Text) → Leaves c → Keeps a → Keeps b → Keeps (if_text c a b)
-if_fits c a b lc ka kb = counted_fits (c ++ (PassUnless (length a + 1) ∷ (a ++ (Pass (length b) ∷ b)))) (λ l behind g.
+if_fits c a b lc ka kb = counted_fits (c ++ (JumpIfFalse (length a + 1) ∷ (a ++ (Jump (length b) ∷ b)))) (λ l behind g.
     let B = kb l behind g in
     let P = at 0 l ∷ B.0 in
     let A = ka l P refl in
     let C = lc 0 l (at 1 l ∷ A.0) refl in
     let end : length b ≡ length b + 0 = omega arith in
-    let pass : AreFine (Pass (length b) ∷ b) P behind = (passed b B.0 behind 0 (length b) B.1 end ∙ g, B.1) in
+    let pass : AreFine (Jump (length b) ∷ b) P behind = (passed b B.0 behind 0 (length b) B.1 end ∙ g, B.1) in
     let to_b : Leads A.0 (length a + 1) (at 0 l) = passed a A.0 P 1 (length a + 1) A.1 refl ∙ B.2 in
-    let test : AreFine (PassUnless (length a + 1) ∷ (a ++ (Pass (length b) ∷ b))) (at 1 l ∷ A.0) behind =
-    (((0, 0, refl, refl, A.2), 0, refl, to_b), fine_append a (Pass (length b) ∷ b) A.0 P behind A.1 pass) in
+    let test : AreFine (JumpIfFalse (length a + 1) ∷ (a ++ (Jump (length b) ∷ b))) (at 1 l ∷ A.0) behind =
+    (((0, 0, refl, refl, A.2), 0, refl, to_b), fine_append a (Jump (length b) ∷ b) A.0 P behind A.1 pass) in
     (C.0, fine_append c _ C.0 (at 1 l ∷ A.0) behind C.1 test, C.2))
 
 while_fits : (c a : Text) → Leaves c → Keeps a → Keeps (while_text c a)
-while_fits c a lc ka = counted_fits (Begin (length c + length a + 4) ∷ (c ++ (PassUnless (length a + 2) ∷ Round ∷ (a ++ Again ∷ Finish ∷ [])))) (λ l behind g.
+while_fits c a lc ka = counted_fits (BeginLoop (length c + length a + 4) ∷ (c ++ (JumpIfFalse (length a + 2) ∷ BeginRound ∷ (a ++ LoopBack ∷ EndLoop ∷ [])))) (λ l behind g.
     let m = l + 1 in
     let some : 0 < m = omega arith in
     let F = at 0 m ∷ behind in
@@ -252,12 +251,12 @@ while_fits c a lc ka = counted_fits (Begin (length c + length a + 4) ∷ (c ++ (
     let Q = at 0 m ∷ A.0 in
     let S = at 1 m ∷ Q in
     let C = lc 0 m S refl in
-    let last : AreFine (Again ∷ Finish ∷ []) E behind = ((refl, some), ((refl, l, refl, g), refl)) in
-    let body : AreFine (a ++ Again ∷ Finish ∷ []) A.0 behind = fine_append a (Again ∷ Finish ∷ []) A.0 E behind A.1 last in
-    let round : AreFine (Round ∷ (a ++ Again ∷ Finish ∷ [])) Q behind = ((refl, some, A.2), body) in
+    let last : AreFine (LoopBack ∷ EndLoop ∷ []) E behind = ((refl, some), ((refl, l, refl, g), refl)) in
+    let body : AreFine (a ++ LoopBack ∷ EndLoop ∷ []) A.0 behind = fine_append a (LoopBack ∷ EndLoop ∷ []) A.0 E behind A.1 last in
+    let round : AreFine (BeginRound ∷ (a ++ LoopBack ∷ EndLoop ∷ [])) Q behind = ((refl, some, A.2), body) in
     let two : length a + 2 ≡ suc (length a + 1) = omega arith in
     let out : Leads Q (length a + 2) (at 0 m) = ap (λ i. slice_get Q i) two ∙ passed a A.0 E 1 (length a + 1) A.1 refl in
-    let rest = PassUnless (length a + 2) ∷ Round ∷ (a ++ Again ∷ Finish ∷ []) in
+    let rest = JumpIfFalse (length a + 2) ∷ BeginRound ∷ (a ++ LoopBack ∷ EndLoop ∷ []) in
     let test : AreFine rest S behind = (((0, 0, refl, refl, refl), 0, refl, out), round) in
     let n = length c + length a + 4 in
     let past_c : n ≡ length c + suc (suc (length a + 2)) = omega arith in
@@ -278,13 +277,13 @@ cases_fit (c ∷ cs) every l behind g h =
     let b = joined c.1 in
     let P = at 0 l ∷ more.all in
     let B = joined_fits c.1 every.0 l P refl in
-    let pass : AreFine (Pass 1 ∷ []) P more.all = (more.second, refl) in
+    let pass : AreFine (Jump 1 ∷ []) P more.all = (more.second, refl) in
     let skip : Leads B.0 (length b + 1) (at 1 l) = passed b B.0 P 1 (length b + 1) B.1 refl ∙ more.first in
-    let one : AreFine (case_text c.0 b) (at 1 l ∷ B.0) more.all = (((0, 0, refl, refl, B.2), skip), fine_append b (Pass 1 ∷ []) B.0 P more.all B.1 pass) in
+    let one : AreFine (case_text c.0 b) (at 1 l ∷ B.0) more.all = (((0, 0, refl, refl, B.2), skip), fine_append b (Jump 1 ∷ []) B.0 P more.all B.1 pass) in
     record { all = at 1 l ∷ B.0; fine = fine_append (case_text c.0 b) (cases_text cs) (at 1 l ∷ B.0) more.all behind one more.fine; first = refl; second = B.2 }
 
 switch_fits : (c : Text) → Leaves c → (cs : List (Val × List Text)) → Every (λ (c : Val × List Text). Every Keeps c.1) cs → (a : Text) → Keeps a → Keeps (switch_text c (cases_text cs) a)
-switch_fits c lc cs every a ka = counted_fits (Begin (length c + length (cases_text cs) + length a + 2) ∷ (c ++ (cases_text cs ++ (Forget ∷ (a ++ Finish ∷ []))))) (λ l behind g.
+switch_fits c lc cs every a ka = counted_fits (BeginLoop (length c + length (cases_text cs) + length a + 2) ∷ (c ++ (cases_text cs ++ (Pop ∷ (a ++ EndLoop ∷ []))))) (λ l behind g.
     let m = l + 1 in
     let ts = cases_text cs in
     let F = at 0 m ∷ behind in
@@ -292,9 +291,9 @@ switch_fits c lc cs every a ka = counted_fits (Begin (length c + length (cases_t
     let G = at 1 m ∷ A.0 in
     let T = cases_fit cs every m G refl A.2 in
     let C = lc 0 m T.all T.first in
-    let last : AreFine (Finish ∷ []) F behind = ((refl, l, refl, g), refl) in
-    let default : AreFine (Forget ∷ (a ++ Finish ∷ [])) G behind = ((0, 0, refl, refl, A.2), fine_append a (Finish ∷ []) A.0 F behind A.1 last) in
-    let tests : AreFine (ts ++ (Forget ∷ (a ++ Finish ∷ []))) T.all behind = fine_append ts _ T.all G behind T.fine default in
+    let last : AreFine (EndLoop ∷ []) F behind = ((refl, l, refl, g), refl) in
+    let default : AreFine (Pop ∷ (a ++ EndLoop ∷ [])) G behind = ((0, 0, refl, refl, A.2), fine_append a (EndLoop ∷ []) A.0 F behind A.1 last) in
+    let tests : AreFine (ts ++ (Pop ∷ (a ++ EndLoop ∷ []))) T.all behind = fine_append ts _ T.all G behind T.fine default in
     let n = length c + length ts + length a + 2 in
     let past_c : n ≡ length c + (length ts + suc (length a + 1)) = omega arith in
     let exit : Leads C.0 n (at 0 l) =
@@ -302,7 +301,7 @@ switch_fits c lc cs every a ka = counted_fits (Begin (length c + length (cases_t
     ∙ passed a A.0 F 1 (length a + 1) A.1 refl ∙ g in
     (at 0 l ∷ C.0, ((refl, C.2, exit), fine_append c _ C.0 T.all behind C.1 tests), refl))
 
-return_fits : (o : Option Expr) → Keeps (Count ∷ return_text o)
+return_fits : (o : Option Expr) → Keeps (CountStatement ∷ return_text o)
 return_fits None = counted_fits (Push (val.Int (pos 1)) ∷ Return ∷ []) (λ l behind g. (at 0 l ∷ at 1 l ∷ behind, ((0, 1, refl, refl, refl), (refl, refl)), refl))
 return_fits (Some e) = counted_fits (expr_code e AsValue ++ Return ∷ []) (λ l behind g.
     let C = expr_fits e AsValue 0 l (at 1 l ∷ behind) refl in
@@ -330,7 +329,7 @@ case_pairs (y ∷ ys) = (stmt_pairs y.1, case_pairs ys)
 
 stmt_layer : (y : Stmt-F ((s : Stmt) × StmtFits s)) → Keeps (stmt_text (map-Stmt _ _ stmt_code (map-Stmt _ _ (λ e. e.0) y)))
 stmt_layer (Stmt-F.Set x e) = set_fits x (expr_code e AsValue) (expr_fits e AsValue)
-stmt_layer (Stmt-F.Do e) = take_fits Forget (λ s b m. m) (expr_code e AsValue) (expr_fits e AsValue)
+stmt_layer (Stmt-F.Do e) = take_fits Pop (λ s b m. m) (expr_code e AsValue) (expr_fits e AsValue)
 stmt_layer (Stmt-F.If e a b) = if_fits (expr_code e AsTruth) (joined (stmt_texts a)) (joined (stmt_texts b)) (expr_fits e AsTruth) (joined_fits (stmt_texts a) (stmt_pairs a)) (joined_fits (stmt_texts b) (stmt_pairs b))
 stmt_layer (Stmt-F.While e body) = while_fits (expr_code e AsTruth) (joined (stmt_texts body)) (expr_fits e AsTruth) (joined_fits (stmt_texts body) (stmt_pairs body))
 stmt_layer (Stmt-F.Switch e cs last) = switch_fits (expr_code e AsValue) (expr_fits e AsValue) (case_texts cs) (case_pairs cs) (joined (stmt_texts last)) (joined_fits (stmt_texts last) (stmt_pairs last))

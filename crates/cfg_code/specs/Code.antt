@@ -17,7 +17,7 @@ use Rattle.cfg_tree.specs.declared.script.Stmt.TheOpen.{Stmt-F}
 use Rattle.cfg_tree.specs.declared.script.Stmt.TheFolds.{fold-Stmt}
 use Rattle.cfg_tree.specs.Meaning.{Wanted, AsValue, AsTruth}
 use Rattle.cfg_code.specs.declared.instr.Instr.{Instr}
-use Rattle.cfg_code.specs.declared.instr.Instr.TheVariants.{Push, Load, LastCode, Success, Store, Read, ReadItem, Write, WriteItem, Transform, Append, Limit, Argument, Call, Settle, Enter, Binary, Negate, Not, Truth, Match, AndThen, OrElse, Forget, Count, PassUnless, Pass, Case, Begin, Round, Again, Finish, Break, Return, Exit, Drop, EndBlock}
+use Rattle.cfg_code.specs.declared.instr.Instr.TheVariants.{Push, Load, LoadCode, LoadSuccess, Store, Read, ReadItem, Write, WriteItem, Transform, Concat, PushArgument, CallFunction, ExitOnZero, CallBlock, Binary, Negate, Not, ToBool, Match, JumpIfFalseOrPop, JumpIfTrueOrPop, Pop, CountStatement, JumpIfFalse, Jump, Case, BeginLoop, BeginRound, LoopBack, EndLoop, Break, Return, Exit, Drop, EndBlock}
 
 abbrev pub Text : Type 0
 Text = List Instr
@@ -30,21 +30,21 @@ joined (t ∷ ts) = t ++ joined ts
 -- ---- expanded texts
 
 -- a part, whose text is put behind the text on the stack
-abbrev pub appended : Text → Text
-appended part = part ++ Append ∷ []
+abbrev pub concat_text : Text → Text
+concat_text part = part ++ Concat ∷ []
 
-abbrev pub appends : List Text → Text
-appends [] = []
-appends (p ∷ ps) = appended p ++ appends ps
+abbrev pub concats : List Text → Text
+concats [] = []
+concats (p ∷ ps) = concat_text p ++ concats ps
 
 -- an expanded text: the empty text, and each part behind it
 abbrev pub expansion_text : List Text → Text
-expansion_text parts = Push (val.Text []) ∷ (appends parts ++ Limit ∷ [])
+expansion_text parts = Push (val.Text []) ∷ concats parts
 
 abbrev pub part_text : Part-F Text → Text
 part_text (Part-F.Text t) = Push (val.Text t) ∷ []
 part_text (Part-F.Var x) = Load x ∷ []
-part_text Part-F.Code = LastCode ∷ []
+part_text Part-F.Code = LoadCode ∷ []
 part_text (Part-F.Host x) = Read x ∷ []
 part_text (Part-F.Item way t key) = expansion_text key ++ ReadItem way t ∷ []
 part_text (Part-F.Transformed tr p) = p ++ Transform tr ∷ []
@@ -52,8 +52,8 @@ part_text (Part-F.Transformed tr p) = p ++ Transform tr ∷ []
 abbrev pub part_code : Part → Text
 part_code = fold-Part Text part_text
 
-abbrev pub appends_code : List Part → Text
-appends_code parts = appends (map part_code parts)
+abbrev pub concats_code : List Part → Text
+concats_code parts = concats (map part_code parts)
 
 abbrev pub expansion_code : List Part → Text
 expansion_code parts = expansion_text (map part_code parts)
@@ -62,15 +62,15 @@ expansion_code parts = expansion_text (map part_code parts)
 
 -- the code of a call that was made, as a value or as its truth
 abbrev pub wanted_text : Wanted → Instr
-wanted_text AsValue = LastCode
-wanted_text AsTruth = Success
+wanted_text AsValue = LoadCode
+wanted_text AsTruth = LoadSuccess
 
 -- a call is counted, then made, and its code 0 ends the run
 abbrev pub called_text : Text → Wanted → Text
-called_text call wanted = Count ∷ (call ++ Settle ∷ wanted_text wanted ∷ [])
+called_text call wanted = CountStatement ∷ (call ++ ExitOnZero ∷ wanted_text wanted ∷ [])
 
 abbrev pub argument_text : Text → Text
-argument_text a = a ++ Argument ∷ []
+argument_text a = a ++ PushArgument ∷ []
 
 abbrev pub arguments_code : List (List Part) → Text
 arguments_code [] = []
@@ -86,7 +86,7 @@ links_text (c ∷ cs) = link_text c.0 (c.1 AsValue) ++ links_text cs
 
 -- behind a 1 or 0: an operand of `&&`, which is passed behind a 0
 abbrev pub and_text : Text → Text
-and_text a = AndThen (length a + 1) ∷ (a ++ Truth ∷ [])
+and_text a = JumpIfFalseOrPop (length a + 1) ∷ (a ++ ToBool ∷ [])
 
 abbrev pub ands_text : List (Wanted → Text) → Text
 ands_text [] = []
@@ -94,7 +94,7 @@ ands_text (a ∷ more) = and_text (a AsTruth) ++ ands_text more
 
 -- an operand of `||`, which is passed behind a 1
 abbrev pub or_text : Text → Text
-or_text a = OrElse (length a + 1) ∷ (a ++ Truth ∷ [])
+or_text a = JumpIfTrueOrPop (length a + 1) ∷ (a ++ ToBool ∷ [])
 
 abbrev pub ors_text : List (Wanted → Text) → Text
 ors_text [] = []
@@ -104,8 +104,8 @@ abbrev pub expr_text : Expr-F (Wanted → Text) → Wanted → Text
 expr_text (Expr-F.Int n) wanted = Push (val.Int n) ∷ []
 expr_text (Expr-F.Text t) wanted = Push (limited t) ∷ []
 expr_text (Expr-F.Read p) wanted = part_code p
-expr_text (Expr-F.Call f args) wanted = called_text (arguments_code args ++ Call f ∷ []) wanted
-expr_text (Expr-F.Route block) wanted = called_text (Enter block ∷ []) wanted
+expr_text (Expr-F.Call f args) wanted = called_text (arguments_code args ++ CallFunction f ∷ []) wanted
+expr_text (Expr-F.Route block) wanted = called_text (CallBlock block ∷ []) wanted
 expr_text (Expr-F.Not a) wanted = a AsTruth ++ Not ∷ []
 expr_text (Expr-F.Negative a) wanted = a AsValue ++ Negate ∷ []
 expr_text (Expr-F.Chain a cs) wanted = a AsValue ++ links_text cs
@@ -130,24 +130,24 @@ ors_code ms = ors_text (map expr_code ms)
 
 -- an assignment: the key, then the value
 abbrev pub set_text : Target → Text → Text
-set_text (target.Var x) value = Count ∷ (value ++ Store x ∷ [])
-set_text (target.Host x) value = Count ∷ (value ++ Write x ∷ [])
-set_text (target.Item way t key) value = Count ∷ (expansion_code key ++ (value ++ WriteItem way t ∷ []))
+set_text (target.Var x) value = CountStatement ∷ (value ++ Store x ∷ [])
+set_text (target.Host x) value = CountStatement ∷ (value ++ Write x ∷ [])
+set_text (target.Item way t key) value = CountStatement ∷ (expansion_code key ++ (value ++ WriteItem way t ∷ []))
 
 -- a choice: the test, the first side with a jump past the other, and the other
 abbrev pub if_text : Text → Text → Text → Text
 if_text test first other =
-    Count ∷ (test ++ (PassUnless (length first + 1) ∷ (first ++ (Pass (length other) ∷ other))))
+    CountStatement ∷ (test ++ (JumpIfFalse (length first + 1) ∷ (first ++ (Jump (length other) ∷ other))))
 
--- a loop: the first test is counted here, each later one by `Again`
+-- a loop: the first test is counted here, each later one by `LoopBack`
 abbrev pub while_text : Text → Text → Text
 while_text test body =
-    Count ∷ Begin (length test + length body + 4)
-    ∷ (test ++ (PassUnless (length body + 2) ∷ Round ∷ (body ++ Again ∷ Finish ∷ [])))
+    CountStatement ∷ BeginLoop (length test + length body + 4)
+    ∷ (test ++ (JumpIfFalse (length body + 2) ∷ BeginRound ∷ (body ++ LoopBack ∷ EndLoop ∷ [])))
 
 -- a case: its test, its statements, and a jump past the next test
 abbrev pub case_text : Val → Text → Text
-case_text label body = Case label (length body + 1) ∷ (body ++ Pass 1 ∷ [])
+case_text label body = Case label (length body + 1) ∷ (body ++ Jump 1 ∷ [])
 
 abbrev pub cases_text : List (Val × List Text) → Text
 cases_text [] = []
@@ -156,8 +156,8 @@ cases_text (c ∷ cs) = case_text c.0 (joined c.1) ++ cases_text cs
 -- a switch: the value, which the case that equals it takes, and else the default
 abbrev pub switch_text : Text → Text → Text → Text
 switch_text value cases default =
-    Count ∷ Begin (length value + length cases + length default + 2)
-    ∷ (value ++ (cases ++ (Forget ∷ (default ++ Finish ∷ []))))
+    CountStatement ∷ BeginLoop (length value + length cases + length default + 2)
+    ∷ (value ++ (cases ++ (Pop ∷ (default ++ EndLoop ∷ []))))
 
 abbrev pub return_text : Option Expr → Text
 return_text None = Push (val.Int (pos 1)) ∷ Return ∷ []
@@ -165,15 +165,15 @@ return_text (Some e) = expr_code e AsValue ++ Return ∷ []
 
 abbrev pub stmt_text : Stmt-F Text → Text
 stmt_text (Stmt-F.Set target e) = set_text target (expr_code e AsValue)
-stmt_text (Stmt-F.Do e) = expr_code e AsValue ++ Forget ∷ []
+stmt_text (Stmt-F.Do e) = expr_code e AsValue ++ Pop ∷ []
 stmt_text (Stmt-F.If e first other) = if_text (expr_code e AsTruth) (joined first) (joined other)
 stmt_text (Stmt-F.While e body) = while_text (expr_code e AsTruth) (joined body)
 stmt_text (Stmt-F.Switch e cases default) =
     switch_text (expr_code e AsValue) (cases_text cases) (joined default)
 stmt_text Stmt-F.Break = Break ∷ []
-stmt_text (Stmt-F.Return e) = Count ∷ return_text e
-stmt_text Stmt-F.Exit = Count ∷ Exit ∷ []
-stmt_text Stmt-F.Drop = Count ∷ Drop ∷ []
+stmt_text (Stmt-F.Return e) = CountStatement ∷ return_text e
+stmt_text Stmt-F.Exit = CountStatement ∷ Exit ∷ []
+stmt_text Stmt-F.Drop = CountStatement ∷ Drop ∷ []
 
 abbrev pub stmt_code : Stmt → Text
 stmt_code = fold-Stmt Text stmt_text

@@ -9,8 +9,9 @@ use Rattle.cfg_tree.specs.Meaning.{RunTalk, block_at}
 use Rattle.cfg_code.specs.declared.instr.Instr.{Instr}
 use Rattle.cfg_code.specs.declared.code.Loaded.{Loaded}
 use Rattle.cfg_code.specs.declared.machine.Event.TheVariants.{Moved, Asked, Over}
+use Rattle.cfg_code.specs.declared.machine.Wait.TheVariants as wait
 use Rattle.cfg_code.specs.Code.{block_code}
-use Rattle.cfg_code.specs.Machine.{Configuration, entry, step_of, told}
+use Rattle.cfg_code.specs.Machine.{Configuration, IsOpen, entry, step_of, asked_of, told}
 
 -- these instructions stand in the code from this place on
 abbrev pub HasAt : List Instr → ℕ → List Instr → Type 0
@@ -30,11 +31,13 @@ pub record Stands (loaded : Loaded) (script : Script) : Type 0 where
 -- from here on the code has this dialogue
 pub data Behaves (loaded : Loaded) : Configuration → RunTalk → Type 0 where
   moves : (r : Configuration) (t : RunTalk) → (step_of loaded r).event ≡ Moved → Behaves loaded (step_of loaded r).run t → Behaves loaded r t
-  asks : (r : Configuration) (a : HostAsk) (next : HostAnswer → RunTalk) → (step_of loaded r).event ≡ Asked a →
+  asks : (r : Configuration) (a : HostAsk) (next : HostAnswer → RunTalk) → (step_of loaded r).event ≡ Asked →
+      asked_of loaded (step_of loaded r).run ≡ a → IsOpen (step_of loaded r).run.wait →
       ((answer : HostAnswer) → Behaves loaded (told answer (step_of loaded r).run) (next answer)) → Behaves loaded r (Asks a next)
-  ends : (r : Configuration) (h : How) → (step_of loaded r).event ≡ Over h →
+  ends : (r : Configuration) (h : How) → (step_of loaded r).event ≡ Over → (step_of loaded r).run.wait ≡ wait.Over h →
       Behaves loaded r (Ends (record { env = (step_of loaded r).run.env; how = h }))
 
--- where a run waits for an answer: it goes on from each as this says
+-- where a run waits for an answer: it hasn't ended, and goes on from each answer as this says
 pub record Waits (loaded : Loaded) (r : Configuration) (next : HostAnswer → RunTalk) : Type 0 where
+  pub still : IsOpen r.wait
   pub by : (answer : HostAnswer) → Behaves loaded (told answer r) (next answer)

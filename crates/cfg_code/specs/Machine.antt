@@ -1,19 +1,21 @@
 -- What one instruction does, and what an answer does.
-use Rattle.std.specs.Prelude.{ℕ, zero, suc, ◌+◌, ℤ, pos, int_lt, not, if◌then◌else◌, List, [], ◌∷◌, ◌++◌, Option, Some, None, slice_get, slice_index_or, slice_set}
+use Rattle.std.specs.Prelude.{ℕ, zero, suc, ◌+◌, ◌-◌, ℤ, pos, int_lt, not, if◌then◌else◌, List, [], ◌∷◌, ◌++◌, drop, Option, Some, None, slice_get, slice_index_or, slice_set}
 use Rattle.pv_values.specs.declared.value.Val.{Val}
 use Rattle.pv_values.specs.declared.value.Val.TheVariants as val
 use Rattle.pv_values.specs.declared.variable.PvUse.{PvUse}
+use Rattle.pv_values.specs.declared.variable.PvUse.TheVariants as pv
 use Rattle.pv_values.specs.declared.run.Env.{Env}
 use Rattle.pv_values.specs.declared.run.How.{How}
 use Rattle.pv_values.specs.declared.run.How.TheVariants as how
 use Rattle.pv_values.specs.declared.run.HostAsk.{HostAsk}
 use Rattle.pv_values.specs.declared.run.HostAsk.TheVariants as ask
 use Rattle.pv_values.specs.declared.run.HostAnswer.{HostAnswer}
-use Rattle.pv_values.specs.Values.{text_of, is_true, limited, bit, same, binary_value, negated, code_of, told_value, told_code}
+use Rattle.pv_values.specs.Values.{text_of, is_true, bit, same, sum_of, binary_value, negated, code_of, told_value, told_code}
+use Rattle.cfg_tree.specs.declared.script.TableUse.{TableUse}
 use Rattle.cfg_tree.specs.Transformations.{transformed}
 use Rattle.cfg_tree.specs.Meaning.{item_of, matched, end_of, max_statements}
 use Rattle.cfg_code.specs.declared.instr.Instr.{Instr}
-use Rattle.cfg_code.specs.declared.instr.Instr.TheVariants.{Push, Load, LastCode, Success, Store, Read, ReadItem, Write, WriteItem, Transform, Append, Limit, Argument, Call, Settle, Enter, Binary, Negate, Not, Truth, Match, AndThen, OrElse, Forget, Count, PassUnless, Pass, Case, Begin, Round, Again, Finish, Break, Return, Exit, Drop, EndBlock}
+use Rattle.cfg_code.specs.declared.instr.Instr.TheVariants.{Push, Load, LoadCode, LoadSuccess, Store, Read, ReadItem, Write, WriteItem, Transform, Concat, PushArgument, CallFunction, ExitOnZero, CallBlock, Binary, Negate, Not, ToBool, Match, JumpIfFalseOrPop, JumpIfTrueOrPop, Pop, CountStatement, JumpIfFalse, Jump, Case, BeginLoop, BeginRound, LoopBack, EndLoop, Break, Return, Exit, Drop, EndBlock}
 use Rattle.cfg_code.specs.declared.code.Loaded.{Loaded}
 use Rattle.cfg_code.specs.declared.machine.Frame.{Frame}
 use Rattle.cfg_code.specs.declared.machine.Frame.TheVariants.{Loop, Back}
@@ -22,17 +24,17 @@ use Rattle.cfg_code.specs.declared.machine.Wait.TheVariants as wait
 use Rattle.cfg_code.specs.declared.machine.Event.{Event}
 use Rattle.cfg_code.specs.declared.machine.Event.TheVariants.{Moved, Asked, Over, Stuck}
 
--- What a run has at a moment: its place in the code, the operand stack, top first, the arguments of the next call, the
--- open loops and waiting blocks, top first, how many calls may still be nested, the variables, how many statements it may
--- still begin, and what it is told next.
+-- What a run has at a moment: the place of its next instruction, the operand stack, top first, the arguments of the next
+-- call, the open loops and waiting blocks, top first, how many calls may still be nested, the variables, how many
+-- statements it may still begin, and what it waits for. What it asks about stays where it lies until the answer takes it.
 pub record Configuration : Type 0 where
-  pub place : ℕ
+  pub pc : ℕ
   pub stack : List Val
   pub arguments : List Val
   pub frames : List Frame
-  pub deeper : ℕ
+  pub calls_left : ℕ
   pub env : Env
-  pub left : ℕ
+  pub statements_left : ℕ
   pub wait : Wait
 
 -- what an instruction came to, and what the run has after it
@@ -44,22 +46,22 @@ abbrev pub moved : Configuration → Next
 moved r = record { event = Moved; run = r }
 
 abbrev pub over : How → Configuration → Next
-over h r = record { event = Over h; run = r }
+over h r = record { event = Over; run = record r { wait = wait.Over h } }
 
 abbrev pub stuck : Configuration → Next
 stuck r = record { event = Stuck; run = r }
 
--- on by so many instructions
-abbrev pub go : ℕ → Configuration → Next
-go n r = moved (record r { place = r.place + n })
+-- asks, and waits for this
+abbrev pub asking : Wait → Configuration → Next
+asking w r = record { event = Asked; run = record r { wait = w } }
+
+-- past so many instructions
+abbrev pub jump : ℕ → Configuration → Next
+jump n r = moved (record r { pc = r.pc + n })
 
 -- leaves a value
-abbrev pub put : Val → Configuration → Next
-put v r = go 1 (record r { stack = v ∷ r.stack })
-
--- asks, and waits for this
-abbrev pub asking : HostAsk → Wait → Configuration → Next
-asking a w r = record { event = Asked a; run = record r { place = r.place + 1; wait = w } }
+abbrev pub put : Val → Configuration → Configuration
+put v r = record r { stack = v ∷ r.stack }
 
 -- with the topmost value taken
 abbrev pub on_top : List Val → Configuration → (Val → Configuration → Next) → Next
@@ -68,77 +70,74 @@ on_top (v ∷ stack) r next = next v (record r { stack = stack })
 
 -- takes a value, and leaves what is made of it
 abbrev pub changing : (Val → Val) → Configuration → Next
-changing f r = on_top r.stack r (λ v r. put (f v) r)
+changing f r = on_top r.stack r (λ v r. moved (put (f v) r))
 
 -- takes two values, and leaves what is made of the lower and the upper one
 abbrev pub joining : (Val → Val → Val) → Configuration → Next
-joining f r = on_top r.stack r (λ y r. on_top r.stack r (λ x r. put (f x y) r))
-
--- a text with another behind it
-abbrev pub text_with : Val → Val → Val
-text_with u v = val.Text (text_of u ++ text_of v)
+joining f r = on_top r.stack r (λ y r. on_top r.stack r (λ x r. moved (put (f x y) r)))
 
 -- ---- variables, asks
 
 abbrev pub storing : ℕ → Configuration → Next
-storing x r = on_top r.stack r (λ v r. go 1 (record r { env = record r.env { vars = slice_set r.env.vars x v } }))
+storing x r = on_top r.stack r (λ v r. moved (record r { env = record r.env { vars = slice_set r.env.vars x v } }))
 
-abbrev pub reading_under : (List ℕ → PvUse) → Configuration → Next
-reading_under item r = on_top r.stack r (λ k r. asking (ask.Read (item (text_of k))) wait.Value r)
+-- asks about the item under a key, whose text lies on the stack
+abbrev pub reading_item : Configuration → Next
+reading_item r = on_top r.stack r (λ k r. asking wait.ItemValue (put (val.Text (text_of k)) r))
 
-abbrev pub writing : PvUse → Configuration → Next
-writing x r = on_top r.stack r (λ v r. asking (ask.Write x v) wait.Written r)
+abbrev pub writing : Configuration → Next
+writing r = on_top r.stack r (λ v r. asking wait.Written (put v r))
 
-abbrev pub writing_under : (List ℕ → PvUse) → Configuration → Next
-writing_under item r =
-    on_top r.stack r (λ v r. on_top r.stack r (λ k r. asking (ask.Write (item (text_of k)) v) wait.Written r))
+abbrev pub writing_item : Configuration → Next
+writing_item r =
+    on_top r.stack r (λ v r. on_top r.stack r (λ k r. asking wait.ItemWritten (put v (put (val.Text (text_of k)) r))))
 
-abbrev pub adding_argument : Configuration → Next
-adding_argument r = on_top r.stack r (λ v r. go 1 (record r { arguments = r.arguments ++ v ∷ [] }))
+abbrev pub pushing_argument : Configuration → Next
+pushing_argument r = on_top r.stack r (λ v r. moved (record r { arguments = r.arguments ++ v ∷ [] }))
 
 -- ---- jumps
 
--- takes a value, and passes so many where it is false
-abbrev pub passing_unless : ℕ → Configuration → Next
-passing_unless n r = on_top r.stack r (λ v s. if is_true v then go 1 s else go (1 + n) s)
+-- takes a value, and jumps where it is false
+abbrev pub jumping_if_false : ℕ → Configuration → Next
+jumping_if_false n r = on_top r.stack r (λ v r. if is_true v then moved r else jump n r)
 
--- takes a true value, and else passes so many
-abbrev pub and_then : ℕ → Configuration → Next
-and_then n r = on_top r.stack r (λ v s. if is_true v then go 1 s else go (1 + n) r)
+-- takes a true value, and else jumps
+abbrev pub jumping_if_false_or_pop : ℕ → Configuration → Next
+jumping_if_false_or_pop n r = on_top r.stack r (λ v r. if is_true v then moved r else jump n (put v r))
 
--- takes a false value, and else passes so many
-abbrev pub or_else : ℕ → Configuration → Next
-or_else n r = on_top r.stack r (λ v s. if is_true v then go (1 + n) r else go 1 s)
+-- takes a false value, and else jumps
+abbrev pub jumping_if_true_or_pop : ℕ → Configuration → Next
+jumping_if_true_or_pop n r = on_top r.stack r (λ v r. if is_true v then jump n (put v r) else moved r)
 
--- takes a value that equals the label, and else passes so many
+-- takes a value that equals the label, and else jumps
 abbrev pub casing : Val → ℕ → Configuration → Next
-casing label n r = on_top r.stack r (λ v s. if same v label then go 1 s else go (1 + n) r)
+casing label n r = on_top r.stack r (λ v r. if same v label then moved r else jump n (put v r))
 
 -- ---- counts, loops, blocks
 
 -- counts a statement, where it isn't one too many
 abbrev pub counting : ℕ → Configuration → (Configuration → Next) → Next
 counting zero r next = over how.ActionLimit r
-counting (suc left) r next = next (record r { left = left })
+counting (suc left) r next = next (record r { statements_left = left })
 
-abbrev pub beginning : ℕ → ℕ → Configuration → Next
-beginning rounds n r = go 1 (record r { frames = Loop rounds (r.place + 1) (r.place + 1 + n) ∷ r.frames })
+abbrev pub beginning_loop : ℕ → ℕ → Configuration → Next
+beginning_loop rounds n r = moved (record r { frames = Loop rounds r.pc (r.pc + n) ∷ r.frames })
 
-abbrev pub rounding : List Frame → Configuration → Next
-rounding [] r = stuck r
-rounding (Back place deeper ∷ frames) r = stuck r
-rounding (Loop zero start exit ∷ frames) r = over how.LoopLimit r
-rounding (Loop (suc left) start exit ∷ frames) r = go 1 (record r { frames = Loop left start exit ∷ frames })
+abbrev pub beginning_round : List Frame → Configuration → Next
+beginning_round [] r = stuck r
+beginning_round (Back pc calls ∷ frames) r = stuck r
+beginning_round (Loop zero start exit ∷ frames) r = over how.LoopLimit r
+beginning_round (Loop (suc rounds) start exit ∷ frames) r = moved (record r { frames = Loop rounds start exit ∷ frames })
 
-abbrev pub repeating : List Frame → Configuration → Next
-repeating [] r = stuck r
-repeating (Back place deeper ∷ frames) r = stuck r
-repeating (Loop left start exit ∷ frames) r = moved (record r { place = start })
+abbrev pub looping_back : List Frame → Configuration → Next
+looping_back [] r = stuck r
+looping_back (Back pc calls ∷ frames) r = stuck r
+looping_back (Loop rounds start exit ∷ frames) r = moved (record r { pc = start })
 
-abbrev pub finishing : List Frame → Configuration → Next
-finishing [] r = stuck r
-finishing (Back place deeper ∷ frames) r = stuck r
-finishing (Loop left start exit ∷ frames) r = go 1 (record r { frames = frames })
+abbrev pub ending_loop : List Frame → Configuration → Next
+ending_loop [] r = stuck r
+ending_loop (Back pc calls ∷ frames) r = stuck r
+ending_loop (Loop rounds start exit ∷ frames) r = moved (record r { frames = frames })
 
 abbrev pub with_code : ℤ → Configuration → Configuration
 with_code n r = record r { env = record r.env { rc = n } }
@@ -146,71 +145,66 @@ with_code n r = record r { env = record r.env { rc = n } }
 -- back with a code to the block that waits, or to the end of the run
 abbrev pub leave : List Frame → ℤ → How → Configuration → Next
 leave [] n h r = over h (record r { frames = [] })
-leave (Loop left start exit ∷ frames) n h r = leave frames n h r
-leave (Back place deeper ∷ frames) n h r =
-    moved (with_code n (record r { place = place; deeper = deeper; frames = frames }))
+leave (Loop rounds start exit ∷ frames) n h r = leave frames n h r
+leave (Back pc calls ∷ frames) n h r = moved (with_code n (record r { pc = pc; calls_left = calls; frames = frames }))
 
 -- out of the loop or switch, or of the block
 abbrev pub breaking : List Frame → Configuration → Next
 breaking [] r = leave [] (pos 1) how.Normal r
-breaking (Back place deeper ∷ frames) r = leave (Back place deeper ∷ frames) (pos 1) how.Normal r
-breaking (Loop left start exit ∷ frames) r = moved (record r { place = exit; frames = frames })
+breaking (Back pc calls ∷ frames) r = leave (Back pc calls ∷ frames) (pos 1) how.Normal r
+breaking (Loop rounds start exit ∷ frames) r = moved (record r { pc = exit; frames = frames })
 
 abbrev pub returning : Configuration → Next
 returning r = on_top r.stack r (λ v r. leave r.frames (code_of v) (end_of (code_of v)) r)
 
-abbrev pub settling : ℤ → Configuration → Next
-settling (pos zero) r = over how.Exit r
-settling n r = go 1 r
+abbrev pub exiting_on_zero : ℤ → Configuration → Next
+exiting_on_zero (pos zero) r = over how.Exit r
+exiting_on_zero n r = moved r
 
 -- into a block that begins there
-abbrev pub entering : ℕ → ℕ → Configuration → Next
-entering zero to r = over how.DepthLimit r
-entering (suc deeper) to r =
-    moved (record r { place = to; deeper = deeper; frames = Back (r.place + 1) (suc deeper) ∷ r.frames })
+abbrev pub calling_block : ℕ → ℕ → Configuration → Next
+calling_block zero to r = over how.DepthLimit r
+calling_block (suc calls) to r =
+    moved (record r { pc = to; calls_left = calls; frames = Back r.pc (suc calls) ∷ r.frames })
 
 -- the place where a block begins
 abbrev pub entry : Loaded → ℕ → ℕ
 entry loaded block = slice_index_or loaded.code.entries block 0
 
-abbrev pub calling : Configuration → (List Val → HostAsk) → Next
-calling r call = asking (call r.arguments) wait.Code (record r { arguments = [] })
-
--- what an instruction does
+-- what an instruction does, where the run's place is behind it
 abbrev pub act : Loaded → Instr → Configuration → Next
-act loaded (Push v) r = put v r
-act loaded (Load x) r = put (slice_index_or r.env.vars x val.Null) r
-act loaded LastCode r = put (val.Int r.env.rc) r
-act loaded Success r = put (bit (int_lt (pos 0) r.env.rc)) r
+act loaded (Push v) r = moved (put v r)
+act loaded (Load x) r = moved (put (slice_index_or r.env.vars x val.Null) r)
+act loaded LoadCode r = moved (put (val.Int r.env.rc) r)
+act loaded LoadSuccess r = moved (put (bit (int_lt (pos 0) r.env.rc)) r)
 act loaded (Store x) r = storing x r
-act loaded (Read x) r = asking (ask.Read x) wait.Value r
-act loaded (ReadItem way t) r = reading_under (item_of way t) r
-act loaded (Write x) r = writing x r
-act loaded (WriteItem way t) r = writing_under (item_of way t) r
+act loaded (Read x) r = asking wait.Value r
+act loaded (ReadItem way t) r = reading_item r
+act loaded (Write x) r = writing r
+act loaded (WriteItem way t) r = writing_item r
 act loaded (Transform tr) r = changing (transformed tr) r
-act loaded Append r = joining text_with r
-act loaded Limit r = changing (λ v. limited (text_of v)) r
-act loaded Argument r = adding_argument r
-act loaded (Call f) r = calling r (ask.Call f)
-act loaded Settle r = settling r.env.rc r
-act loaded (Enter block) r = entering r.deeper (entry loaded block) r
+act loaded Concat r = joining sum_of r
+act loaded PushArgument r = pushing_argument r
+act loaded (CallFunction f) r = asking wait.Code r
+act loaded ExitOnZero r = exiting_on_zero r.env.rc r
+act loaded (CallBlock block) r = calling_block r.calls_left (entry loaded block) r
 act loaded (Binary op) r = joining (binary_value op) r
 act loaded Negate r = changing negated r
 act loaded Not r = changing (λ v. bit (not (is_true v))) r
-act loaded Truth r = changing (λ v. bit (is_true v)) r
+act loaded ToBool r = changing (λ v. bit (is_true v)) r
 act loaded (Match p) r = changing (λ v. bit (matched (slice_get loaded.patterns p) v)) r
-act loaded (AndThen n) r = and_then n r
-act loaded (OrElse n) r = or_else n r
-act loaded Forget r = on_top r.stack r (λ v. go 1)
-act loaded Count r = counting r.left r (go 1)
-act loaded (PassUnless n) r = passing_unless n r
-act loaded (Pass n) r = go (1 + n) r
+act loaded (JumpIfFalseOrPop n) r = jumping_if_false_or_pop n r
+act loaded (JumpIfTrueOrPop n) r = jumping_if_true_or_pop n r
+act loaded Pop r = on_top r.stack r (λ v. moved)
+act loaded CountStatement r = counting r.statements_left r moved
+act loaded (JumpIfFalse n) r = jumping_if_false n r
+act loaded (Jump n) r = jump n r
 act loaded (Case label n) r = casing label n r
-act loaded (Begin n) r = beginning loaded.parameters.max_while_loops n r
-act loaded Round r = rounding r.frames r
-act loaded Again r = counting r.left r (λ r. repeating r.frames r)
-act loaded Finish r = finishing r.frames r
-act loaded Break r = counting r.left r (λ r. breaking r.frames r)
+act loaded (BeginLoop n) r = beginning_loop loaded.parameters.max_while_loops n r
+act loaded BeginRound r = beginning_round r.frames r
+act loaded LoopBack r = counting r.statements_left r (λ r. looping_back r.frames r)
+act loaded EndLoop r = ending_loop r.frames r
+act loaded Break r = counting r.statements_left r (λ r. breaking r.frames r)
 act loaded Return r = returning r
 act loaded Exit r = over how.Exit r
 act loaded Drop r = over how.Drop r
@@ -218,31 +212,72 @@ act loaded EndBlock r = leave r.frames (pos 1) how.Normal r
 
 abbrev pub fetched : Loaded → Option Instr → Configuration → Next
 fetched loaded None r = stuck r
-fetched loaded (Some i) r = act loaded i r
+fetched loaded (Some i) r = act loaded i (record r { pc = r.pc + 1 })
 
 -- one instruction, which stands at the run's place
 abbrev pub step_of : Loaded → Configuration → Next
-step_of loaded r = fetched loaded (slice_get loaded.code.instrs r.place) r
+step_of loaded r = fetched loaded (slice_get loaded.code.instrs r.pc) r
 
--- what an answer does
+-- ---- what a run asks, as the instruction before its place, the stack and the arguments say
+
+-- where nothing is asked
+abbrev pub no_ask : HostAsk
+no_ask = ask.Read (pv.Item 0 [])
+
+-- of an item under a key, which is a text
+abbrev pub item_read : TableUse → ℕ → Option Val → HostAsk
+item_read way t (Some (val.Text k)) = ask.Read (item_of way t k)
+item_read way t key = no_ask
+
+abbrev pub host_written : PvUse → Option Val → HostAsk
+host_written x (Some v) = ask.Write x v
+host_written x None = no_ask
+
+abbrev pub item_written : TableUse → ℕ → Option Val → Option Val → HostAsk
+item_written way t (Some v) (Some (val.Text k)) = ask.Write (item_of way t k) v
+item_written way t v key = no_ask
+
+abbrev pub asked_by : Option Instr → Configuration → HostAsk
+asked_by (Some (Read x)) r = ask.Read x
+asked_by (Some (ReadItem way t)) r = item_read way t (slice_get r.stack 0)
+asked_by (Some (Write x)) r = host_written x (slice_get r.stack 0)
+asked_by (Some (WriteItem way t)) r = item_written way t (slice_get r.stack 0) (slice_get r.stack 1)
+asked_by (Some (CallFunction f)) r = ask.Call f r.arguments
+asked_by other r = no_ask
+
+abbrev pub asked_of : Loaded → Configuration → HostAsk
+asked_of loaded r = asked_by (slice_get loaded.code.instrs (r.pc - 1)) r
+
+-- ---- what an answer does: it takes what was asked about
+
 abbrev pub told_as : Wait → HostAnswer → Configuration → Configuration
 told_as wait.Start answer r = record r { wait = wait.Start }
 told_as wait.Value answer r = record r { stack = told_value answer ∷ r.stack; wait = wait.Start }
-told_as wait.Written answer r = record r { wait = wait.Start }
-told_as wait.Code answer r = with_code (told_code answer) (record r { wait = wait.Start })
+told_as wait.ItemValue answer r = record r { stack = told_value answer ∷ drop 1 r.stack; wait = wait.Start }
+told_as wait.Written answer r = record r { stack = drop 1 r.stack; wait = wait.Start }
+told_as wait.ItemWritten answer r = record r { stack = drop 2 r.stack; wait = wait.Start }
+told_as wait.Code answer r = with_code (told_code answer) (record r { arguments = []; wait = wait.Start })
+told_as (wait.Over h) answer r = r
 
 abbrev pub told : HostAnswer → Configuration → Configuration
 told answer r = told_as r.wait answer r
 
+-- ---- beginning and end
+
 -- what a run of a block has at its start
 abbrev pub begun : Loaded → ℕ → Env → Configuration
 begun loaded block env = record {
-  place = entry loaded block;
+  pc = entry loaded block;
   stack = [];
   arguments = [];
   frames = [];
-  deeper = loaded.parameters.max_recursive_level;
+  calls_left = loaded.parameters.max_recursive_level;
   env = env;
-  left = max_statements;
+  statements_left = max_statements;
   wait = wait.Start;
 }
+
+-- the run hasn't ended
+abbrev pub IsOpen : Wait → Type 0
+IsOpen (wait.Over h) = ⊥
+IsOpen w = Unit {0}

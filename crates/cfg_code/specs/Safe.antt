@@ -1,6 +1,5 @@
 -- What a run of code may come to.
 use Rattle.std.specs.Prelude.{◌≡◌}
-use Rattle.pv_values.specs.declared.run.HostAsk.{HostAsk}
 use Rattle.pv_values.specs.declared.run.HostAnswer.{HostAnswer}
 use Rattle.cfg_code.specs.declared.code.Loaded.{Loaded}
 use Rattle.cfg_code.specs.declared.machine.Event.TheVariants.{Moved, Asked}
@@ -10,5 +9,5 @@ use Rattle.cfg_code.specs.Machine.{Configuration, step_of, told}
 pub data Reaches (loaded : Loaded) (r : Configuration) : Configuration → Type 0 where
   here : Reaches loaded r r
   moved : (q : Configuration) → Reaches loaded r q → (step_of loaded q).event ≡ Moved → Reaches loaded r (step_of loaded q).run
-  answered : (q : Configuration) (a : HostAsk) (answer : HostAnswer) → Reaches loaded r q → (step_of loaded q).event ≡ Asked a →
+  answered : (q : Configuration) (answer : HostAnswer) → Reaches loaded r q → (step_of loaded q).event ≡ Asked →
       Reaches loaded r (told answer (step_of loaded q).run)

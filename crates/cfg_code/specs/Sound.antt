@@ -1,7 +1,7 @@
 -- Code whose jumps stay in it, and whose instructions find what they take.
 use Rattle.std.specs.Prelude.{◌≡◌, ℕ, ◌+◌, ◌<◌, List, [], ◌∷◌, Some, slice_get, slice_index_or}
 use Rattle.cfg_code.specs.declared.instr.Instr.{Instr}
-use Rattle.cfg_code.specs.declared.instr.Instr.TheVariants.{Push, Load, LastCode, Success, Store, Read, ReadItem, Write, WriteItem, Transform, Append, Limit, Argument, Call, Settle, Enter, Binary, Negate, Not, Truth, Match, AndThen, OrElse, Forget, Count, PassUnless, Pass, Case, Begin, Round, Again, Finish, Break, Return, Exit, Drop, EndBlock}
+use Rattle.cfg_code.specs.declared.instr.Instr.TheVariants.{Push, Load, LoadCode, LoadSuccess, Store, Read, ReadItem, Write, WriteItem, Transform, Concat, PushArgument, CallFunction, ExitOnZero, CallBlock, Binary, Negate, Not, ToBool, Match, JumpIfFalseOrPop, JumpIfTrueOrPop, Pop, CountStatement, JumpIfFalse, Jump, Case, BeginLoop, BeginRound, LoopBack, EndLoop, Break, Return, Exit, Drop, EndBlock}
 use Rattle.cfg_code.specs.Flat.{Flat}
 
 -- what stands where an instruction begins, of the block alone: values on the operand stack, and open loops
@@ -25,36 +25,35 @@ Moves takes leaves s behind =
 abbrev pub IsFine : Instr → Shape → List Shape → Type 0
 IsFine (Push v) s behind = Moves 0 1 s behind
 IsFine (Load x) s behind = Moves 0 1 s behind
-IsFine LastCode s behind = Moves 0 1 s behind
-IsFine Success s behind = Moves 0 1 s behind
+IsFine LoadCode s behind = Moves 0 1 s behind
+IsFine LoadSuccess s behind = Moves 0 1 s behind
 IsFine (Store x) s behind = Moves 1 0 s behind
 IsFine (Read x) s behind = Moves 0 1 s behind
 IsFine (ReadItem way t) s behind = Moves 1 1 s behind
 IsFine (Write x) s behind = Moves 1 0 s behind
 IsFine (WriteItem way t) s behind = Moves 2 0 s behind
 IsFine (Transform tr) s behind = Moves 1 1 s behind
-IsFine Append s behind = Moves 2 1 s behind
-IsFine Limit s behind = Moves 1 1 s behind
-IsFine Argument s behind = Moves 1 0 s behind
-IsFine (Call f) s behind = Moves 0 0 s behind
-IsFine Settle s behind = Moves 0 0 s behind
-IsFine (Enter block) s behind = Moves 0 0 s behind
+IsFine Concat s behind = Moves 2 1 s behind
+IsFine PushArgument s behind = Moves 1 0 s behind
+IsFine (CallFunction f) s behind = Moves 0 0 s behind
+IsFine ExitOnZero s behind = Moves 0 0 s behind
+IsFine (CallBlock block) s behind = Moves 0 0 s behind
 IsFine (Binary op) s behind = Moves 2 1 s behind
 IsFine Negate s behind = Moves 1 1 s behind
 IsFine Not s behind = Moves 1 1 s behind
-IsFine Truth s behind = Moves 1 1 s behind
+IsFine ToBool s behind = Moves 1 1 s behind
 IsFine (Match p) s behind = Moves 1 1 s behind
-IsFine (AndThen n) s behind = Moves 1 0 s behind × Leads behind n s
-IsFine (OrElse n) s behind = Moves 1 0 s behind × Leads behind n s
-IsFine Forget s behind = Moves 1 0 s behind
-IsFine Count s behind = Moves 0 0 s behind
-IsFine (PassUnless n) s behind = Moves 1 0 s behind × (rest : ℕ) × (s.values ≡ 1 + rest) × Leads behind n (record s { values = rest })
-IsFine (Pass n) s behind = Leads behind n s
+IsFine (JumpIfFalseOrPop n) s behind = Moves 1 0 s behind × Leads behind n s
+IsFine (JumpIfTrueOrPop n) s behind = Moves 1 0 s behind × Leads behind n s
+IsFine Pop s behind = Moves 1 0 s behind
+IsFine CountStatement s behind = Moves 0 0 s behind
+IsFine (JumpIfFalse n) s behind = Moves 1 0 s behind × (rest : ℕ) × (s.values ≡ 1 + rest) × Leads behind n (record s { values = rest })
+IsFine (Jump n) s behind = Leads behind n s
 IsFine (Case label n) s behind = Moves 1 0 s behind × Leads behind n s
-IsFine (Begin n) s behind = (s.values ≡ 0) × Leads behind 0 (record s { loops = s.loops + 1 }) × Leads behind n s
-IsFine Round s behind = (s.values ≡ 0) × (0 < s.loops) × Leads behind 0 s
-IsFine Again s behind = (s.values ≡ 0) × (0 < s.loops)
-IsFine Finish s behind = (s.values ≡ 0) × (rest : ℕ) × (s.loops ≡ rest + 1) × Leads behind 0 (record s { loops = rest })
+IsFine (BeginLoop n) s behind = (s.values ≡ 0) × Leads behind 0 (record s { loops = s.loops + 1 }) × Leads behind n s
+IsFine BeginRound s behind = (s.values ≡ 0) × (0 < s.loops) × Leads behind 0 s
+IsFine LoopBack s behind = (s.values ≡ 0) × (0 < s.loops)
+IsFine EndLoop s behind = (s.values ≡ 0) × (rest : ℕ) × (s.loops ≡ rest + 1) × Leads behind 0 (record s { loops = rest })
 IsFine Break s behind = s.values ≡ 0
 IsFine Return s behind = s.values ≡ 1
 IsFine Exit s behind = Unit {0}

@@ -1,4 +1,4 @@
-// Code, and a script as code.
+//! Code, and a script as code.
 
 ghost use Rattle.std.specs.Prelude.{◌≡◌, slice_index_or};
 

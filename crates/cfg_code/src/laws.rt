@@ -1,4 +1,4 @@
-// What code has to do with the script that it stands for.
+//! What code has to do with the script that it stands for.
 
 ghost use Rattle.std.specs.Prelude.{◌≢◌, ℕ, List};
 ghost use Rattle.pv_values.specs.declared.run.Env.{Env};

@@ -17,7 +17,7 @@ use Rattle.cfg_tree.specs.declared.script.Stmt.TheOpen.{Stmt-F}
 use Rattle.cfg_tree.specs.declared.script.Stmt.TheFolds.{fold-roll-Stmt}
 use Rattle.cfg_tree.specs.Meaning.{Wanted, AsValue, AsTruth}
 use Rattle.cfg_code.specs.declared.instr.Instr.{Instr}
-use Rattle.cfg_code.specs.Code.{Text, appended, part_code, appends_code, argument_text, expansion_code, arguments_code, link_text, and_text, or_text, expr_text, expr_code, links_code, ands_code, ors_code, stmt_text, stmt_code, list_code, case_text, cases_code, switch_text}
+use Rattle.cfg_code.specs.Code.{Text, concat_text, part_code, concats_code, argument_text, expansion_code, arguments_code, link_text, and_text, or_text, expr_text, expr_code, links_code, ands_code, ors_code, stmt_text, stmt_code, list_code, case_text, cases_code, switch_text}
 
 module _ (A : Type 0) (g : List A → Text) (f : A → Text) (nil : g [] ≡ []) (cons : (x : A) (xs : List A) → g (x ∷ xs) ≡ f x ++ g xs) where
   push : (xs : List A) (x : A) → g (xs ++ x ∷ []) ≡ g xs ++ f x
@@ -29,8 +29,8 @@ module _ (A : Type 0) (g : List A → Text) (f : A → Text) (nil : g [] ≡ [])
       let next : take (i + 1) xs ≡ take i xs ++ x ∷ [] = take_more xs i x h ∙ ap (λ y. take i xs ++ y ∷ []) (sym is) in
       whole ∙ ap (λ y. y ++ u) e ∙ ap (λ y. g (take i xs) ++ y) new ∙ sym (push (take i xs) x) ∙ ap g (sym next)
 
-pub appends_more : (xs : List Part) (i : ℕ) (x : Part) (t u t' : Text) → i < length xs → x ≡ get_or xs i x → t ≡ appends_code (take i xs) → u ≡ appended (part_code x) → t' ≡ t ++ u → t' ≡ appends_code (take (i + 1) xs)
-appends_more = one_more Part appends_code (λ x. appended (part_code x)) refl (λ x xs. refl)
+pub concats_more : (xs : List Part) (i : ℕ) (x : Part) (t u t' : Text) → i < length xs → x ≡ get_or xs i x → t ≡ concats_code (take i xs) → u ≡ concat_text (part_code x) → t' ≡ t ++ u → t' ≡ concats_code (take (i + 1) xs)
+concats_more = one_more Part concats_code (λ x. concat_text (part_code x)) refl (λ x xs. refl)
 
 pub arguments_more : (xs : List (List Part)) (i : ℕ) (x : List Part) (t u t' : Text) → i < length xs → x ≡ get_or xs i x → t ≡ arguments_code (take i xs) → u ≡ argument_text (expansion_code x) → t' ≡ t ++ u → t' ≡ arguments_code (take (i + 1) xs)
 arguments_more = one_more (List Part) arguments_code (λ x. argument_text (expansion_code x)) refl (λ x xs. refl)

@@ -31,11 +31,11 @@ pub fn expr_text(alloc: Global, e: &Expr, wanted: Wanted) -> Result<Items<Instr>
         Expr::Read(part) => part_text(alloc, part),
         Expr::Call(function, arguments) => {
             let arguments = arguments_text(alloc, arguments.as_slice())?;
-            let call = ended(arguments, Instr::Call(function.copy(alloc)?))?;
+            let call = ended(arguments, Instr::CallFunction(function.copy(alloc)?))?;
             called(alloc, call, wanted)
         }
         Expr::Route(block) => {
-            let call = one(alloc, Instr::Enter(*block))?;
+            let call = one(alloc, Instr::CallBlock(*block))?;
             called(alloc, call, wanted)
         }
         Expr::Not(a) => {

@@ -1,9 +1,9 @@
 // Parts of expanded texts, and what is made of them.
 
-ghost use Rattle.std.specs.Prelude.{◌≡◌, ◌++◌, ◌∷◌, [], IfOk};
-ghost use Rattle.cfg_code.specs.Code.{part_code, appends_code, expansion_code, arguments_code};
+ghost use Rattle.std.specs.Prelude.{◌≡◌, ◌∷◌, [], IfOk};
+ghost use Rattle.cfg_code.specs.Code.{part_code, concats_code, expansion_code, arguments_code};
 
-use crate::text::{between, ended, one};
+use crate::text::{begun, ended, one};
 use cfg_code::Instr;
 use cfg_tree::Part;
 use pv_values::{Text, Val};
@@ -17,11 +17,11 @@ pub fn part_text(alloc: Global, part: &Part) -> Result<Items<Instr>, NoMemory>
     match part {
         Part::Text(text) => one(alloc, Instr::Push(Val::Text(text.copy(alloc)?))),
         Part::Var(x) => one(alloc, Instr::Load(*x)),
-        Part::Code => one(alloc, Instr::LastCode),
+        Part::Code => one(alloc, Instr::LoadCode),
         Part::Host(variable) => one(alloc, Instr::Read(variable.copy(alloc)?)),
         Part::Item(way, table, key) => {
-            let appends = appends_text(alloc, key.as_slice())?;
-            let key = expansion(alloc, appends)?;
+            let parts = concats_text(alloc, key.as_slice())?;
+            let key = expansion(alloc, parts)?;
             ended(key, Instr::ReadItem(*way, *table))
         }
         Part::Transformed(transformation, part) => {
@@ -33,30 +33,30 @@ pub fn part_text(alloc: Global, part: &Part) -> Result<Items<Instr>, NoMemory>
 
 /// The parts, each put behind the text on the stack.
 #[cycle(parts)]
-fn appends_text(alloc: Global, parts: &[Part]) -> Result<Items<Instr>, NoMemory>
-    ensures { IfOk result (λ text. text ≡ appends_code parts.now) }
+fn concats_text(alloc: Global, parts: &[Part]) -> Result<Items<Instr>, NoMemory>
+    ensures { IfOk result (λ text. text ≡ concats_code parts.now) }
 {
     let mut text = Items::new(alloc);
     for part in parts {
         let part = part_text(alloc, part)?;
-        text.append(ended(part, Instr::Append)?)?;
+        text.append(ended(part, Instr::Concat)?)?;
     }
     Ok(text)
 }
 
 /// An expanded text of these parts.
-fn expansion(alloc: Global, appends: Items<Instr>) -> Result<Items<Instr>, NoMemory>
-    ensures { IfOk result (λ text. text ≡ Instr.Push (Val.Text []) ∷ (appends ++ Instr.Limit ∷ [])) }
+fn expansion(alloc: Global, parts: Items<Instr>) -> Result<Items<Instr>, NoMemory>
+    ensures { IfOk result (λ text. text ≡ Instr.Push (Val.Text []) ∷ parts) }
 {
     let nothing = Val::Text(Text::of(Vec::new(alloc)));
-    between(alloc, Instr::Push(nothing), appends, Instr::Limit)
+    begun(alloc, Instr::Push(nothing), parts)
 }
 
 pub fn expansion_text(alloc: Global, parts: &[Part]) -> Result<Items<Instr>, NoMemory>
     ensures { IfOk result (λ text. text ≡ expansion_code parts.now) }
 {
-    let appends = appends_text(alloc, parts)?;
-    expansion(alloc, appends)
+    let parts = concats_text(alloc, parts)?;
+    expansion(alloc, parts)
 }
 
 /// The arguments of a call, from left to right.
@@ -66,7 +66,7 @@ pub fn arguments_text(alloc: Global, arguments: &[Items<Part>]) -> Result<Items<
     let mut text = Items::new(alloc);
     for argument in arguments {
         let argument = expansion_text(alloc, argument.as_slice())?;
-        text.append(ended(argument, Instr::Argument)?)?;
+        text.append(ended(argument, Instr::PushArgument)?)?;
     }
     Ok(text)
 }

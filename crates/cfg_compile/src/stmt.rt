@@ -23,7 +23,7 @@ fn stmt_text(alloc: Global, s: &Stmt) -> Result<Items<Instr>, NoMemory>
         }
         Stmt::Do(e) => {
             let call = expr_text(alloc, e, Wanted::Value)?;
-            ended(call, Instr::Forget)
+            ended(call, Instr::Pop)
         }
         Stmt::If(e, first, other) => {
             let test = expr_text(alloc, e, Wanted::Truth)?;
@@ -49,14 +49,14 @@ fn stmt_text(alloc: Global, s: &Stmt) -> Result<Items<Instr>, NoMemory>
         Stmt::Break => one(alloc, Instr::Break),
         Stmt::Return(None) => {
             let value = one(alloc, Instr::Push(Val::Int(1)))?;
-            between(alloc, Instr::Count, value, Instr::Return)
+            between(alloc, Instr::CountStatement, value, Instr::Return)
         }
         Stmt::Return(Some(e)) => {
             let value = expr_text(alloc, e, Wanted::Value)?;
-            between(alloc, Instr::Count, value, Instr::Return)
+            between(alloc, Instr::CountStatement, value, Instr::Return)
         }
-        Stmt::Exit => two(alloc, Instr::Count, Instr::Exit),
-        Stmt::Drop => two(alloc, Instr::Count, Instr::Drop),
+        Stmt::Exit => two(alloc, Instr::CountStatement, Instr::Exit),
+        Stmt::Drop => two(alloc, Instr::CountStatement, Instr::Drop),
     }
 }
 
@@ -77,15 +77,15 @@ fn assignment(alloc: Global, target: &Target, value: Items<Instr>) -> Result<Ite
     ensures { IfOk result (λ text. text ≡ set_text target.now value) }
 {
     match target {
-        Target::Var(x) => between(alloc, Instr::Count, value, Instr::Store(*x)),
+        Target::Var(x) => between(alloc, Instr::CountStatement, value, Instr::Store(*x)),
         Target::Host(variable) => {
             let last = Instr::Write(variable.copy(alloc)?);
-            between(alloc, Instr::Count, value, last)
+            between(alloc, Instr::CountStatement, value, last)
         }
         Target::Item(way, table, key) => {
             let key = expansion_text(alloc, key.as_slice())?;
             let value = ended(value, Instr::WriteItem(*way, *table))?;
-            begun(alloc, Instr::Count, both(key, value)?)
+            begun(alloc, Instr::CountStatement, both(key, value)?)
         }
     }
 }
@@ -100,11 +100,11 @@ fn choice(
 {
     let skip = offset(first.len(), 1)?;
     let pass = offset(other.len(), 0)?;
-    let mut text = one(alloc, Instr::Count)?;
+    let mut text = one(alloc, Instr::CountStatement)?;
     text.append(test)?;
-    text.push(Instr::PassUnless(skip))?;
+    text.push(Instr::JumpIfFalse(skip))?;
     text.append(first)?;
-    text.push(Instr::Pass(pass))?;
+    text.push(Instr::Jump(pass))?;
     text.append(other)?;
     Ok(text)
 }
@@ -115,13 +115,13 @@ fn repeated(alloc: Global, test: Items<Instr>, body: Items<Instr>) -> Result<Ite
     let skip = offset(body.len(), 2)?;
     let inside = offset(body.len(), 4)?;
     let end = offset(test.len(), inside)?;
-    let mut text = two(alloc, Instr::Count, Instr::Begin(end))?;
+    let mut text = two(alloc, Instr::CountStatement, Instr::BeginLoop(end))?;
     text.append(test)?;
-    text.push(Instr::PassUnless(skip))?;
-    text.push(Instr::Round)?;
+    text.push(Instr::JumpIfFalse(skip))?;
+    text.push(Instr::BeginRound)?;
     text.append(body)?;
-    text.push(Instr::Again)?;
-    text.push(Instr::Finish)?;
+    text.push(Instr::LoopBack)?;
+    text.push(Instr::EndLoop)?;
     Ok(text)
 }
 
@@ -130,7 +130,7 @@ fn one_case(alloc: Global, label: &Val, body: Items<Instr>) -> Result<Items<Inst
 {
     let skip = offset(body.len(), 1)?;
     let test = Instr::Case(label.copy(alloc)?, skip);
-    between(alloc, test, body, Instr::Pass(1))
+    between(alloc, test, body, Instr::Jump(1))
 }
 
 fn chosen(
@@ -145,11 +145,11 @@ fn chosen(
     let second = offset(cases.len(), first)?;
     let third = offset(default.len(), second)?;
     let end = offset(third as usize, 2)?;
-    let mut text = two(alloc, Instr::Count, Instr::Begin(end))?;
+    let mut text = two(alloc, Instr::CountStatement, Instr::BeginLoop(end))?;
     text.append(value)?;
     text.append(cases)?;
-    text.push(Instr::Forget)?;
+    text.push(Instr::Pop)?;
     text.append(default)?;
-    text.push(Instr::Finish)?;
+    text.push(Instr::EndLoop)?;
     Ok(text)
 }

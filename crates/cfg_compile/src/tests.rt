@@ -110,14 +110,28 @@ fn compiled(alloc: Global, block: Items<Stmt>) -> Result<Loaded, AllocError> {
     compile(alloc, script(alloc, blocks))
 }
 
-/// The code has exactly these instructions, each beginning as said.
+/// An instruction as a line, with a text in quotes.
+fn line(alloc: Global, instr: &Instr) -> Result<String, AllocError> {
+    match instr {
+        Instr::Push(Val::Text(text)) => {
+            let text = str::from_utf8(text.bytes()).unwrap_or("?");
+            format!(in alloc; "Push('{text}')")
+        }
+        Instr::CallFunction(Func::IsMethod(list)) => {
+            let list = str::from_utf8(list.bytes()).unwrap_or("?");
+            format!(in alloc; "CallFunction(IsMethod '{list}')")
+        }
+        other => format!(in alloc; "{other:?}"),
+    }
+}
+
+/// The code has exactly these instructions.
 fn reads(alloc: Global, instrs: &[Instr], lines: &[&str]) -> Result<bool, AllocError> {
     if instrs.len() != lines.len() {
         return Ok(false);
     }
     for place in 0..lines.len() {
-        let instr = &instrs[place];
-        if !format!(in alloc; "{instr:?}")?.starts_with(lines[place]) {
+        if line(alloc, &instrs[place])?.as_str() != lines[place] {
             return Ok(false);
         }
     }
@@ -127,23 +141,23 @@ fn reads(alloc: Global, instrs: &[Instr], lines: &[&str]) -> Result<bool, AllocE
 /// `$var(i) = 0; while ($var(i) < 100) { $var(i) = $var(i) + 1; }`
 const LOOP: [&str; 19] = [
     "EndBlock",
-    "Count",
+    "CountStatement",
     "Push(Int(0))",
     "Store(0)",
-    "Count",
-    "Begin(12)",
+    "CountStatement",
+    "BeginLoop(12)",
     "Load(0)",
     "Push(Int(100))",
     "Binary(Lt)",
-    "PassUnless(7)",
-    "Round",
-    "Count",
+    "JumpIfFalse(7)",
+    "BeginRound",
+    "CountStatement",
     "Load(0)",
     "Push(Int(1))",
     "Binary(Add)",
     "Store(0)",
-    "Again",
-    "Finish",
+    "LoopBack",
+    "EndLoop",
     "EndBlock",
 ];
 
@@ -169,16 +183,16 @@ fn a_loop_counts_each_test(rt: HostRuntime) -> Result<(), Fail> {
 /// `route(Z); $var(a) = 1;` with `route[Z] { return 0; }`
 const ROUTE: [&str; 14] = [
     "EndBlock",
-    "Count",
-    "Enter(1)",
-    "Settle",
-    "LastCode",
-    "Forget",
-    "Count",
+    "CountStatement",
+    "CallBlock(1)",
+    "ExitOnZero",
+    "LoadCode",
+    "Pop",
+    "CountStatement",
     "Push(Int(1))",
     "Store(0)",
     "EndBlock",
-    "Count",
+    "CountStatement",
     "Push(Int(0))",
     "Return",
     "EndBlock",
@@ -199,18 +213,18 @@ fn a_route_is_entered_where_it_begins(rt: HostRuntime) -> Result<(), Fail> {
 /// `if (9223372036854775807 + 1 == $null) $var(a) = 1; $var(a) = -7 mod 2;`
 const OPERANDS: [&str; 19] = [
     "EndBlock",
-    "Count",
+    "CountStatement",
     "Push(Int(9223372036854775807))",
     "Push(Int(1))",
     "Binary(Add)",
     "Read(Null)",
     "Binary(Eq)",
-    "PassUnless(4)",
-    "Count",
+    "JumpIfFalse(4)",
+    "CountStatement",
     "Push(Int(1))",
     "Store(0)",
-    "Pass(0)",
-    "Count",
+    "Jump(0)",
+    "CountStatement",
     "Push(Int(7))",
     "Negate",
     "Push(Int(2))",
@@ -251,32 +265,32 @@ fn operands_come_from_left_to_right(rt: HostRuntime) -> Result<(), Fail> {
 /// `switch ($var(a)) { case 1: case 2: break; default: drop; }`, and then `$var(a) = $var(a) && 2 || 3;`
 const CASES: [&str; 29] = [
     "EndBlock",
-    "Count",
-    "Begin(10)",
+    "CountStatement",
+    "BeginLoop(10)",
     "Load(0)",
     "Case(Int(1), 1)",
-    "Pass(1)",
+    "Jump(1)",
     "Case(Int(2), 2)",
     "Break",
-    "Pass(1)",
-    "Forget",
-    "Count",
+    "Jump(1)",
+    "Pop",
+    "CountStatement",
     "Drop",
-    "Finish",
-    "Count",
+    "EndLoop",
+    "CountStatement",
     "Push(Int(0))",
-    "OrElse(8)",
+    "JumpIfTrueOrPop(8)",
     "Push(Int(1))",
-    "AndThen(2)",
+    "JumpIfFalseOrPop(2)",
     "Load(0)",
-    "Truth",
-    "AndThen(2)",
+    "ToBool",
+    "JumpIfFalseOrPop(2)",
     "Push(Int(2))",
-    "Truth",
-    "Truth",
-    "OrElse(2)",
+    "ToBool",
+    "ToBool",
+    "JumpIfTrueOrPop(2)",
     "Push(Int(3))",
-    "Truth",
+    "ToBool",
     "Store(0)",
     "EndBlock",
 ];
@@ -308,88 +322,80 @@ fn cases_fall_through_and_operands_are_passed(rt: HostRuntime) -> Result<(), Fai
 /// `request_route { if (is_method("REGISTER")) { t_continue("$sht(w=>i$ci)", "$sht(w=>l$ci)", "BACK");
 /// sl_send_reply("200", "$rc"); exit; } t_suspend(); $sht(w=>i$ci) = $T(id_index);
 /// $sht(w=>l$ci) = $T(id_label); } route[BACK] { t_reply("200", "OK"); }`
-const WAITING: [&str; 82] = [
+const WAITING: [&str; 74] = [
     "EndBlock",
-    "Count",
-    "Count",
-    "Call(IsMethod",
-    "Settle",
-    "Success",
-    "PassUnless(40)",
-    "Count",
-    "Push(Text",
-    "Push(Text",
-    "Push(Text",
-    "Append",
+    "CountStatement",
+    "CountStatement",
+    "CallFunction(IsMethod 'REGISTER')",
+    "ExitOnZero",
+    "LoadSuccess",
+    "JumpIfFalse(40)",
+    "CountStatement",
+    "Push('')",
+    "Push('')",
+    "Push('i')",
+    "Concat",
     "Read(CallId)",
-    "Append",
-    "Limit",
+    "Concat",
     "ReadItem(Item, 0)",
-    "Append",
-    "Limit",
-    "Argument",
-    "Push(Text",
-    "Push(Text",
-    "Push(Text",
-    "Append",
+    "Concat",
+    "PushArgument",
+    "Push('')",
+    "Push('')",
+    "Push('l')",
+    "Concat",
     "Read(CallId)",
-    "Append",
-    "Limit",
+    "Concat",
     "ReadItem(Item, 0)",
-    "Append",
-    "Limit",
-    "Argument",
-    "Call(TContinue(1))",
-    "Settle",
-    "LastCode",
-    "Forget",
-    "Count",
-    "Push(Text",
-    "LastCode",
-    "Append",
-    "Limit",
-    "Argument",
-    "Call(SlSendReply(200))",
-    "Settle",
-    "LastCode",
-    "Forget",
-    "Count",
+    "Concat",
+    "PushArgument",
+    "CallFunction(TContinue(1))",
+    "ExitOnZero",
+    "LoadCode",
+    "Pop",
+    "CountStatement",
+    "Push('')",
+    "LoadCode",
+    "Concat",
+    "PushArgument",
+    "CallFunction(SlSendReply(200))",
+    "ExitOnZero",
+    "LoadCode",
+    "Pop",
+    "CountStatement",
     "Exit",
-    "Pass(0)",
-    "Count",
-    "Call(TSuspend)",
-    "Settle",
-    "LastCode",
-    "Forget",
-    "Count",
-    "Push(Text",
-    "Push(Text",
-    "Append",
+    "Jump(0)",
+    "CountStatement",
+    "CallFunction(TSuspend)",
+    "ExitOnZero",
+    "LoadCode",
+    "Pop",
+    "CountStatement",
+    "Push('')",
+    "Push('i')",
+    "Concat",
     "Read(CallId)",
-    "Append",
-    "Limit",
+    "Concat",
     "Read(IdIndex)",
     "WriteItem(Item, 0)",
-    "Count",
-    "Push(Text",
-    "Push(Text",
-    "Append",
+    "CountStatement",
+    "Push('')",
+    "Push('l')",
+    "Concat",
     "Read(CallId)",
-    "Append",
-    "Limit",
+    "Concat",
     "Read(IdLabel)",
     "WriteItem(Item, 0)",
     "EndBlock",
-    "Count",
-    "Push(Text",
-    "Push(Text",
-    "Append",
-    "Limit",
-    "Argument",
-    "Call(TReply(200))",
-    "Settle",
-    "LastCode",
-    "Forget",
+    "CountStatement",
+    "Push('')",
+    "Push('OK')",
+    "Concat",
+    "PushArgument",
+    "CallFunction(TReply(200))",
+    "ExitOnZero",
+    "LoadCode",
+    "Pop",
     "EndBlock",
 ];
 
@@ -465,7 +471,7 @@ fn keys_and_arguments_are_expanded(rt: HostRuntime) -> Result<(), Fail> {
     let alloc = rt.alloc();
     let loaded = compile(alloc, waiting_script(alloc)?)?;
     assert!(rt; reads(alloc, loaded.code.instrs(), &WAITING)?);
-    assert_eq!(rt; loaded.code.entry(1), 71);
+    assert_eq!(rt; loaded.code.entry(1), 64);
     assert_eq!(rt; loaded.tables.len(), 1);
     Ok(())
 }
@@ -591,11 +597,11 @@ fn the_usual_script_has_its_blocks(rt: HostRuntime) -> Result<(), Fail> {
     let alloc = rt.alloc();
     let loaded = compile(alloc, usual_script(alloc)?)?;
     assert_eq!(rt; loaded.code.entry(loaded.request), 1);
-    assert_eq!(rt; loaded.code.entry(1), 132);
+    assert_eq!(rt; loaded.code.entry(1), 129);
     let instrs = loaded.code.instrs();
-    assert_eq!(rt; instrs.len(), 157);
-    assert!(rt; matches!(instrs[131], Instr::EndBlock));
-    assert!(rt; matches!(instrs[156], Instr::EndBlock));
+    assert_eq!(rt; instrs.len(), 154);
+    assert!(rt; matches!(instrs[128], Instr::EndBlock));
+    assert!(rt; matches!(instrs[153], Instr::EndBlock));
     assert_eq!(rt; loaded.patterns.as_slice().len(), 1);
     Ok(())
 }

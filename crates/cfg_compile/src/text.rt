@@ -1,7 +1,7 @@
 // Texts of instructions, made of the texts of parts.
 
-ghost use Rattle.std.specs.Prelude.{◌≡◌, ◌+◌, ◌++◌, ◌∷◌, [], IfOk};
-ghost use Rattle.cfg_code.specs.Code.{appended, argument_text, called_text, link_text, and_text, or_text};
+ghost use Rattle.std.specs.Prelude.{◌≡◌, ◌+◌, ◌^◌, ◌≤◌, ◌++◌, ◌∷◌, [], IfOk, IfErr};
+ghost use Rattle.cfg_code.specs.Code.{argument_text, called_text, link_text, and_text, or_text};
 ghost use Rattle.cfg_compile.specs.Wanted.{as_meant};
 
 use crate::expr::Wanted;
@@ -69,11 +69,11 @@ pub fn called(alloc: Global, call: Items<Instr>, wanted: Wanted) -> Result<Items
     ensures { IfOk result (λ text. text ≡ called_text call (as_meant wanted)) }
 {
     let code = match wanted {
-        Wanted::Value => Instr::LastCode,
-        Wanted::Truth => Instr::Success,
+        Wanted::Value => Instr::LoadCode,
+        Wanted::Truth => Instr::LoadSuccess,
     };
-    let last = two(alloc, Instr::Settle, code)?;
-    begun(alloc, Instr::Count, both(call, last)?)
+    let last = two(alloc, Instr::ExitOnZero, code)?;
+    begun(alloc, Instr::CountStatement, both(call, last)?)
 }
 
 /// A text, and an operand that is linked to its value.
@@ -93,7 +93,7 @@ pub fn and_operand(alloc: Global, operand: Items<Instr>) -> Result<Items<Instr>,
     ensures { IfOk result (λ text. text ≡ and_text operand) }
 {
     let skip = offset(operand.len(), 1)?;
-    between(alloc, Instr::AndThen(skip), operand, Instr::Truth)
+    between(alloc, Instr::JumpIfFalseOrPop(skip), operand, Instr::ToBool)
 }
 
 /// An operand of `||`, behind the ones before it.
@@ -101,13 +101,14 @@ pub fn or_operand(alloc: Global, operand: Items<Instr>) -> Result<Items<Instr>, 
     ensures { IfOk result (λ text. text ≡ or_text operand) }
 {
     let skip = offset(operand.len(), 1)?;
-    between(alloc, Instr::OrElse(skip), operand, Instr::Truth)
+    between(alloc, Instr::JumpIfTrueOrPop(skip), operand, Instr::ToBool)
 }
 
-/// A length and some more, as a jump has it. A jump that doesn't fit its number counts as want of
-/// memory: the code would have 2 ^ 31 instructions.
+/// A length and some more, as a jump has it. Only where that is 2 ^ 31 or more it counts as want of
+/// memory: the code would have as many instructions.
 pub fn offset(length: usize, more: u32) -> Result<u32, NoMemory>
-    ensures { IfOk result (λ n. n ≡ length + more) }
+    ensures sum { IfOk result (λ n. n ≡ length + more) }
+    ensures long { IfErr result (λ _. 2 ^ 31 ≤ length + more) }
 {
     if length >= 0x8000_0000 || more >= 0x8000_0000 {
         return Err(NoMemory);

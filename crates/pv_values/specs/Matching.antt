@@ -1,5 +1,5 @@
 -- What a pattern is, and what it matches: `regex`'s grammar, and its definition of a match in bytes.
-use Rattle.std.specs.Prelude.{ℕ, Bool, false, ◌&&◌, nat_le, List, Option, Some, None, is_some, chars}
+use Rattle.std.specs.Prelude.{◌≡◌, ℕ, ◌<◌, get_or, Bool, false, ◌&&◌, nat_le, List, Option, Some, None, is_some, chars}
 use Rattle.std.specs.Str.{is_utf8}
 use Rattle.regex_syntax.specs.Grammar.{Names, read}
 use Rattle.regex_syntax.specs.Brackets.{Nested}
@@ -31,3 +31,8 @@ finds (Some (re, names)) text = is_some (find re.value text 0)
 -- the pattern matches somewhere in the text
 unfoldable pub matches_in : List ℕ → List ℕ → Bool
 matches_in source text = finds (pattern_in source) text
+
+-- what is searched for is found in the texts of bytes in which the pattern matches
+abbrev pub FindsAs : Re → List ℕ → Type 0
+FindsAs re source =
+    (text : List ℕ) → ((k : ℕ) → get_or text k 0 < 256) → is_some (find re text 0) ≡ matches_in source text

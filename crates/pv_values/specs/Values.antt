@@ -113,10 +113,16 @@ code_in None = pos 1
 abbrev pub code_of : Val → ℤ
 code_of v = code_in (number_of v)
 
+-- a value that is read, whoever answers it: a text above 8,192 bytes is Null
+abbrev pub value_read : Val → Val
+value_read Null = Null
+value_read (Int n) = Int n
+value_read (Text t) = limited t
+
 -- an answer as a value, and as a code; one of another kind is Null, and 0
 abbrev pub told_value : HostAnswer → Val
 told_value Start = Null
-told_value (Value v) = v
+told_value (Value v) = value_read v
 told_value Written = Null
 told_value (Code n) = Null
 

@@ -8,6 +8,7 @@
 
 pub mod block;
 pub mod function;
+pub mod matcher;
 pub mod number;
 pub mod operator;
 pub mod pattern;
@@ -20,6 +21,7 @@ pub mod variable;
 
 pub use block::BlockKind;
 pub use function::Func;
+pub use matcher::{Matchers, PatternMatcher};
 pub use operator::{BinOp, binary};
 pub use pattern::{Pattern, PatternFault, Patterns};
 pub use refusal::{Place, ScriptFault};

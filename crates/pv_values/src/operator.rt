@@ -5,7 +5,7 @@ ghost use Rattle.std.specs.Option.{option_map_or};
 ghost use Rattle.pv_values.specs.Values.{binary_value, sum_of, same, bit, of_both, number_of, limited, is_number as is_the_number};
 
 use crate::text::Text;
-use crate::value::{Val, as_int, as_text};
+use crate::value::{Val, as_int, into_text};
 use std::alloc::{AllocError as NoMemory, Global};
 
 /// The binary operators, but for `=~`, `&&` and `||`.
@@ -38,22 +38,22 @@ pub enum BinOp {
 /// The longest text of a value, in bytes.
 pub const LONGEST_TEXT: usize = 8192;
 
-/// What the operator gives for these values.
-pub fn binary(alloc: Global, op: BinOp, a: &Val, b: &Val) -> Result<Val, NoMemory>
-    ensures { IfOk result (λ v. v ≡ binary_value op a.now b.now) }
+/// What the operator gives for these values. Only `+` on a text may take memory.
+pub fn binary(alloc: Global, op: BinOp, a: Val, b: Val) -> Result<Val, NoMemory>
+    ensures { IfOk result (λ v. v ≡ binary_value op a b) }
 {
     match op {
         BinOp::Add => sum(alloc, a, b),
-        BinOp::Sub => Ok(difference(a, b)),
-        BinOp::Mul => Ok(product(a, b)),
-        BinOp::Div => Ok(quotient(a, b)),
-        BinOp::Rem => Ok(remainder(a, b)),
-        BinOp::Eq => Ok(bit_value(is_same(a, b))),
-        BinOp::Ne => Ok(bit_value(!is_same(a, b))),
-        BinOp::Lt => Ok(bit_value(is_less(a, b))),
-        BinOp::Gt => Ok(bit_value(is_less(b, a))),
-        BinOp::Le => Ok(bit_value(is_at_most(a, b))),
-        BinOp::Ge => Ok(bit_value(is_at_most(b, a))),
+        BinOp::Sub => Ok(difference(&a, &b)),
+        BinOp::Mul => Ok(product(&a, &b)),
+        BinOp::Div => Ok(quotient(&a, &b)),
+        BinOp::Rem => Ok(remainder(&a, &b)),
+        BinOp::Eq => Ok(bit_value(is_same(&a, &b))),
+        BinOp::Ne => Ok(bit_value(!is_same(&a, &b))),
+        BinOp::Lt => Ok(bit_value(is_less(&a, &b))),
+        BinOp::Gt => Ok(bit_value(is_less(&b, &a))),
+        BinOp::Le => Ok(bit_value(is_at_most(&a, &b))),
+        BinOp::Ge => Ok(bit_value(is_at_most(&b, &a))),
     }
 }
 
@@ -85,26 +85,40 @@ fn number_value(n: Option<i64>) -> Val
     }
 }
 
-fn sum(alloc: Global, a: &Val, b: &Val) -> Result<Val, NoMemory>
-    ensures { IfOk result (λ v. v ≡ sum_of a.now b.now) }
+/// What `+` gives. A text is extended where it lies, and never past 8,192 bytes.
+pub fn sum(alloc: Global, a: Val, b: Val) -> Result<Val, NoMemory>
+    ensures { IfOk result (λ v. v ≡ sum_of a b) }
 {
     match a {
         Val::Null => Ok(Val::Null),
-        Val::Int(x) => match as_int(b) {
-            Some(y) => Ok(number_value(x.checked_add(y))),
-            None => Ok(Val::Null),
-        },
-        Val::Text(text) => joined(alloc, text.bytes(), as_text(alloc, b)?.bytes()),
+        Val::Int(x) => Ok(total(x, &b)),
+        Val::Text(front) => joined(front, into_text(alloc, b)?),
     }
 }
 
-/// The two texts, one after the other.
-fn joined(alloc: Global, front: &[u8], back: &[u8]) -> Result<Val, NoMemory>
-    ensures { IfOk result (λ v. v ≡ limited (front.now ++ back.now)) }
+/// A number, and the number of a value, added.
+fn total(x: i64, b: &Val) -> Val
+    ensures { result ≡ sum_of (Val.Int x) b.now }
 {
-    let mut whole = Vec::from_slice(alloc, front)?;
-    whole.extend_from_slice(back)?;
-    Ok(text_value(Text::of(whole)))
+    match as_int(b) {
+        Some(y) => number_value(x.checked_add(y)),
+        None => Val::Null,
+    }
+}
+
+/// The two texts, one after the other, or `$null` where they have more than 8,192 bytes.
+fn joined(front: Text, back: Text) -> Result<Val, NoMemory>
+    ensures { IfOk result (λ v. v ≡ limited (front ++ back)) }
+{
+    if front.bytes().is_empty() {
+        return Ok(text_value(back));
+    }
+    if front.bytes().len() + back.bytes().len() > LONGEST_TEXT {
+        return Ok(Val::Null);
+    }
+    let mut whole = front;
+    whole.append(back.bytes())?;
+    Ok(Val::Text(whole))
 }
 
 fn difference(a: &Val, b: &Val) -> Val

@@ -3,6 +3,7 @@
 ghost use Rattle.std.specs.Prelude.{◌≡◌, false, true, IfOk, IfErr, List, ℕ};
 ghost use Rattle.pv_values.specs.Matching.{is_pattern, matches_in};
 
+use crate::matcher::{Matchers, PatternMatcher};
 use regex::bytes::Regex;
 use sqlite_items::Items;
 use std::alloc::{AllocError as NoMemory, Global};
@@ -19,7 +20,7 @@ pub enum PatternFault {
 /// A pattern, which contracts see as its text.
 #[derive(Drop)]
 pub struct Pattern {
-    regex: Regex,
+    pub(crate) regex: Regex,
 }
 
 impl Model for Pattern {
@@ -56,7 +57,17 @@ impl Pattern {
     pub fn is_match(&self, alloc: Global, text: &[u8]) -> Result<bool, NoMemory>
         ensures { IfOk result (λ found. found ≡ matches_in self.now text.now) }
     {
-        Ok(self.regex.matcher(alloc)?.is_match(text))
+        Ok(self.matcher(alloc)?.is_match(text))
+    }
+
+    /// A matcher of the pattern, for many matches.
+    pub fn matcher(&self, alloc: Global) -> Result<PatternMatcher<'_>, NoMemory>
+        ensures { IfOk result (λ m. m ≡ self.now) }
+    {
+        Ok(PatternMatcher {
+            matcher: self.regex.matcher(alloc)?,
+            pattern: self,
+        })
     }
 }
 
@@ -87,5 +98,16 @@ impl Patterns {
         ensures { result.now ≡ self.now }
     {
         self.list.as_slice()
+    }
+
+    /// A matcher of each pattern, for many matches.
+    pub fn matchers(&self, alloc: Global) -> Result<Matchers<'_>, NoMemory>
+        ensures { IfOk result (λ m. m ≡ self.now) }
+    {
+        let mut list = Vec::new(alloc);
+        for pattern in self.as_slice() {
+            list.push(pattern.matcher(alloc)?)?;
+        }
+        Ok(Matchers { list })
     }
 }

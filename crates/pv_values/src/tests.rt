@@ -1,7 +1,8 @@
 // What the operators give, worked out by hand from the rules.
 
 use crate::{
-    BinOp, BlockKind, Func, Pattern, PatternFault, PvUse, Text, Val, as_int, as_text, binary, truth,
+    BinOp, BlockKind, Func, Pattern, PatternFault, Patterns, PvUse, Text, Val, as_int, as_text,
+    binary, truth,
 };
 use std::alloc::{AllocError, Global};
 use std::test::Fail;
@@ -28,7 +29,7 @@ fn is_value(a: &Val, b: &Val) -> bool {
 
 fn gives(alloc: Global, row: &(BinOp, &str, &str, &str)) -> Result<bool, AllocError> {
     let (op, left, right, wanted) = *row;
-    let found = binary(alloc, op, &value(alloc, left)?, &value(alloc, right)?)?;
+    let found = binary(alloc, op, value(alloc, left)?, value(alloc, right)?)?;
     Ok(is_value(&found, &value(alloc, wanted)?))
 }
 
@@ -190,9 +191,9 @@ fn values_are_true_or_false(rt: HostRuntime) -> Result<(), Fail> {
 fn a_text_above_8192_bytes_is_null(rt: HostRuntime) -> Result<(), Fail> {
     let alloc = rt.alloc();
     let long = Val::Text(Text::of(vec![in alloc; b'x'; 8191]?));
-    let one_more = binary(alloc, BinOp::Add, &long, &Val::Int(5))?;
+    let one_more = binary(alloc, BinOp::Add, long.copy(alloc)?, Val::Int(5))?;
     assert_eq!(rt; as_text(alloc, &one_more)?.bytes().len(), 8192);
-    let two_more = binary(alloc, BinOp::Add, &long, &Val::Int(55))?;
+    let two_more = binary(alloc, BinOp::Add, long, Val::Int(55))?;
     assert!(rt; is_value(&two_more, &Val::Null));
     Ok(())
 }
@@ -219,6 +220,30 @@ fn patterns_match_anywhere_with_case_kept(rt: HostRuntime) -> Result<(), Fail> {
     }
     assert!(rt; matches!(Pattern::new(alloc, b"("), Err(PatternFault::NotAPattern)));
     assert!(rt; matches!(Pattern::new(alloc, b"\xff"), Err(PatternFault::NotAPattern)));
+    Ok(())
+}
+
+fn pattern(alloc: Global, source: &[u8]) -> Result<Pattern, Fail> {
+    match Pattern::new(alloc, source) {
+        Ok(pattern) => Ok(pattern),
+        Err(_) => Err("no pattern".into()),
+    }
+}
+
+#[test]
+fn a_matcher_is_kept_from_match_to_match(rt: HostRuntime) -> Result<(), Fail> {
+    let alloc = rt.alloc();
+    let mut list = Vec::new(alloc);
+    list.push(pattern(alloc, b"486|408")?)?;
+    list.push(pattern(alloc, b"^sip:")?)?;
+    let patterns = Patterns::of(list);
+    let mut matchers = patterns.matchers(alloc)?;
+    for _ in 0..3 {
+        assert_eq!(rt; matchers.is_match(0, b"408"), Some(true));
+        assert_eq!(rt; matchers.is_match(0, b"sip:a"), Some(false));
+        assert_eq!(rt; matchers.is_match(1, b"sip:a"), Some(true));
+        assert_eq!(rt; matchers.is_match(2, b"sip:a"), None);
+    }
     Ok(())
 }
 

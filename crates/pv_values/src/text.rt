@@ -1,16 +1,15 @@
 // Texts.
 
-ghost use Rattle.std.specs.Prelude.{◌≡◌, IfOk};
+ghost use Rattle.std.specs.Prelude.{◌≡◌, ◌++◌, IfOk, OnOk};
 ghost use Rattle.std.specs.Str.{bytes_eq};
 
-use sqlite_items::Items;
 use std::alloc::{AllocError as NoMemory, Global};
 use std::marker::Model;
 
 /// A text, by its bytes.
 #[derive(Debug, Drop)]
 pub struct Text {
-    list: Items<u8>,
+    list: Vec<u8>,
 }
 
 impl Model for Text {
@@ -18,7 +17,7 @@ impl Model for Text {
 
     ghost Value = { List ℕ };
 
-    ghost view = { λ t. t.list };
+    ghost view = { λ t. t.list.items };
 }
 
 impl Text {
@@ -26,16 +25,14 @@ impl Text {
     pub fn of(list: Vec<u8>) -> Text
         ensures { result ≡ list.items }
     {
-        Text {
-            list: Items::from_vec(list),
-        }
+        Text { list }
     }
 
     /// A text of a copy of these bytes.
     pub fn from_slice(alloc: Global, bytes: &[u8]) -> Result<Text, NoMemory>
         ensures { IfOk result (λ t. t ≡ bytes.now) }
     {
-        let list = Items::from_slice(alloc, bytes)?;
+        let list = Vec::from_slice(alloc, bytes)?;
         Ok(Text { list })
     }
 
@@ -43,6 +40,13 @@ impl Text {
         ensures { result.now ≡ self.now }
     {
         self.list.as_slice()
+    }
+
+    /// Puts bytes behind the text's.
+    pub fn append(&mut self, bytes: &[u8]) -> Result<(), NoMemory>
+        ensures { OnOk result (self.new ≡ self.old ++ bytes.now) }
+    {
+        self.list.extend_from_slice(bytes)
     }
 
     pub fn copy(&self, alloc: Global) -> Result<Text, NoMemory>

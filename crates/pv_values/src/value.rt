@@ -6,7 +6,6 @@ ghost use Rattle.pv_values.specs.Values.{is_true, number_of, text_of};
 use crate::number::text_number;
 use crate::text::Text;
 use itoa::Buffer;
-use sqlite_items::Items;
 use std::alloc::{AllocError as NoMemory, Global};
 use std::marker::Model;
 
@@ -65,10 +64,20 @@ pub fn as_text(alloc: Global, v: &Val) -> Result<Text, NoMemory>
     }
 }
 
+/// The same of a value that is no longer needed: a text is taken over.
+pub fn into_text(alloc: Global, v: Val) -> Result<Text, NoMemory>
+    ensures { IfOk result (λ t. t ≡ text_of v) }
+{
+    match v {
+        Val::Text(text) => Ok(text),
+        other => as_text(alloc, &other),
+    }
+}
+
 /// A list of values.
 #[derive(Debug, Drop)]
 pub struct Vals {
-    list: Items<Val>,
+    list: Vec<Val>,
 }
 
 impl Model for Vals {
@@ -77,23 +86,21 @@ impl Model for Vals {
 
     ghost Value = { List Val };
 
-    ghost view = { λ v. v.list };
+    ghost view = { λ v. v.list.items };
 }
 
 impl Vals {
     pub fn of(list: Vec<Val>) -> Vals
         ensures { result ≡ list.items }
     {
-        Vals {
-            list: Items::from_vec(list),
-        }
+        Vals { list }
     }
 
     pub fn new(alloc: Global) -> Vals
         ensures { result ≡ [] }
     {
         Vals {
-            list: Items::new(alloc),
+            list: Vec::new(alloc),
         }
     }
 
@@ -107,7 +114,15 @@ impl Vals {
         ensures ok { OnOk result (self.new ≡ self.old ++ value ∷ []) }
         ensures err { OnErr result (self.new ≡ self.old) }
     {
-        self.list.push(value)
+        self.list.push(value)?;
+        Ok(())
+    }
+
+    /// Drops all values, and keeps the room.
+    pub fn clear(&mut self)
+        ensures { self.new ≡ [] }
+    {
+        self.list.clear();
     }
 
     /// Puts a value in the place of another.
@@ -115,7 +130,7 @@ impl Vals {
         requires { at < length self.old }
         ensures { self.new ≡ slice_set self.old at value }
     {
-        self.list.set(at, value);
+        self.list[at] = value;
     }
 
     /// A copy of the value at this place, or `$null` where there is none.
@@ -133,8 +148,15 @@ impl Vals {
     pub fn copy(&self, alloc: Global) -> Result<Vals, NoMemory>
         ensures { IfOk result (λ v. v ≡ self.now) }
     {
+        Vals::copy_of(alloc, self.as_slice())
+    }
+
+    /// A list of copies of these values.
+    pub fn copy_of(alloc: Global, list: &[Val]) -> Result<Vals, NoMemory>
+        ensures { IfOk result (λ v. v ≡ list.now) }
+    {
         let mut values = Vals::new(alloc);
-        for value in self.as_slice() {
+        for value in list {
             values.push(value.copy(alloc)?)?;
         }
         Ok(values)

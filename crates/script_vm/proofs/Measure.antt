@@ -8,7 +8,7 @@ use Rattle.pv_values.specs.declared.run.How.{How}
 use Rattle.pv_values.specs.declared.run.HostAnswer.{HostAnswer}
 use Rattle.pv_values.specs.Values.{is_true, same as is_label}
 use Rattle.cfg_code.specs.declared.instr.Instr.{Instr}
-use Rattle.cfg_code.specs.declared.instr.Instr.TheVariants.{Push, Load, LastCode, Success, Store, Read, ReadItem, Write, WriteItem, Transform, Append, Limit, Argument, Call, Settle, Enter, Binary, Negate, Not, Truth, Match, AndThen, OrElse, Forget, Count, PassUnless, Pass, Case, Begin, Round, Again, Finish, Break, Return, Exit, Drop, EndBlock}
+use Rattle.cfg_code.specs.declared.instr.Instr.TheVariants.{Push, Load, LoadCode, LoadSuccess, Store, Read, ReadItem, Write, WriteItem, Transform, Concat, PushArgument, CallFunction, ExitOnZero, CallBlock, Binary, Negate, Not, ToBool, Match, JumpIfFalseOrPop, JumpIfTrueOrPop, Pop, CountStatement, JumpIfFalse, Jump, Case, BeginLoop, BeginRound, LoopBack, EndLoop, Break, Return, Exit, Drop, EndBlock}
 use Rattle.cfg_code.specs.declared.code.Loaded.{Loaded}
 use Rattle.cfg_code.specs.declared.machine.Frame.{Frame}
 use Rattle.cfg_code.specs.declared.machine.Frame.TheVariants.{Loop, Back}
@@ -16,7 +16,8 @@ use Rattle.cfg_code.specs.declared.machine.Event.{Event}
 use Rattle.cfg_code.specs.declared.machine.Event.TheVariants.{Moved, Asked, Over, Stuck}
 use Rattle.cfg_code.specs.declared.machine.Wait.{Wait}
 use Rattle.cfg_code.specs.declared.machine.Wait.TheVariants as wait
-use Rattle.cfg_code.specs.Machine.{Configuration, Next, go, on_top, changing, joining, counting, leave, settling, entering, rounding, repeating, finishing, breaking, act, fetched, step_of, told_as}
+use Rattle.cfg_code.specs.Machine.{Configuration, Next, moved, jump, put, on_top, changing, joining, counting, leave, exiting_on_zero, calling_block, beginning_round, looping_back, ending_loop, breaking, act, fetched, step_of, told_as}
+use Rattle.script_vm.specs.Running.{with_patterns}
 use Rattle.script_vm.specs.Measure.{power, ceiling, rest, waiting, measure, work_left}
 
 power_suc : (b d : ℕ) → power b (suc d) ≡ power b d * b
@@ -41,8 +42,8 @@ power_up n d (suc k) =
 -- the run isn't over
 abbrev pub GoesOn : Event → Type 0
 GoesOn Moved = Unit {0}
-GoesOn (Asked a) = Unit {0}
-GoesOn (Over h) = ⊥
+GoesOn Asked = Unit {0}
+GoesOn Over = ⊥
 GoesOn Stuck = ⊥
 
 -- with the code's length n
@@ -103,149 +104,161 @@ module _ (n : ℕ) where
   Less r x = GoesOn x.event → measure n x.run < measure n r
 
   -- on to a place further on, with the same frames
-  further : (r : Configuration) (q : ℕ) → r.place < n → r.place < q → r.left * ceiling n + (rest n q r.deeper + waiting n r.frames) < measure n r
-  further r q w k = on_less r.left r.place q r.deeper r.frames r.frames w k refl
+  further : (r : Configuration) (q : ℕ) → r.pc < n → r.pc < q → r.statements_left * ceiling n + (rest n q r.calls_left + waiting n r.frames) < measure n r
+  further r q w k = on_less r.statements_left r.pc q r.calls_left r.frames r.frames w k refl
 
-  leave_is : (frames : List Frame) (k : ℤ) (h : How) (r : Configuration) → GoesOn (leave frames k h r).event → measure n (leave frames k h r).run ≡ r.left * ceiling n + waiting n frames
+  leave_is : (frames : List Frame) (k : ℤ) (h : How) (r : Configuration) → GoesOn (leave frames k h r).event → measure n (leave frames k h r).run ≡ r.statements_left * ceiling n + waiting n frames
   leave_is [] k h r e = absurd e
   leave_is (Loop left start exit ∷ frames) k h r e = leave_is frames k h r e
   leave_is (Back place deeper ∷ frames) k h r e = refl
 
-  leave_less : (frames : List Frame) (k : ℤ) (h : How) (r r' : Configuration) → r.place < n → waiting n frames ≡ waiting n r.frames → r'.left ≡ r.left → Less r (leave frames k h r')
+  leave_less : (frames : List Frame) (k : ℤ) (h : How) (r r' : Configuration) → r.pc < n → waiting n frames ≡ waiting n r.frames → r'.statements_left ≡ r.statements_left → Less r (leave frames k h r')
   leave_less frames k h r r' w same left e =
       let a = leave_is frames k h r' e in
-      let b : r'.left * ceiling n ≡ r.left * ceiling n = ap (λ l. l * ceiling n) left in
-      omega (arith, a, b, same, rest_pos r.place r.deeper w)
+      let b : r'.statements_left * ceiling n ≡ r.statements_left * ceiling n = ap (λ l. l * ceiling n) left in
+      omega (arith, a, b, same, rest_pos r.pc r.calls_left w)
 
-  top_less : (stack : List Val) (r : Configuration) (next : Val → Configuration → Next) → ((v : Val) (s : List Val) → Less r (next v (record r { stack = s }))) → Less r (on_top stack r next)
-  top_less [] r next h e = absurd e
-  top_less (v ∷ stack) r next h e = h v stack e
+  -- behind the instruction
+  abbrev behind : Configuration → Configuration
+  behind r = record r { pc = r.pc + 1 }
 
-  changing_less : (f : Val → Val) (r : Configuration) → r.place < n → Less r (changing f r)
-  changing_less f r w e = top_less r.stack r _ (λ v s e. further r (r.place + 1) w (omega arith)) e
+  top_less : (stack : List Val) (r x : Configuration) (next : Val → Configuration → Next) → ((v : Val) (s : List Val) → Less r (next v (record x { stack = s }))) → Less r (on_top stack x next)
+  top_less [] r x next h e = absurd e
+  top_less (v ∷ stack) r x next h e = h v stack e
 
-  joining_less : (f : Val → Val → Val) (r : Configuration) → r.place < n → Less r (joining f r)
-  joining_less f r w e = top_less r.stack r _ (λ y s e. top_less s (record r { stack = s }) _ (λ x s e. further r (r.place + 1) w (omega arith)) e) e
+  changing_less : (f : Val → Val) (r : Configuration) → r.pc < n → Less r (changing f (behind r))
+  changing_less f r w e = top_less r.stack r (behind r) _ (λ v s e. further r (r.pc + 1) w (omega arith)) e
 
-  counting_less : (left : ℕ) (r : Configuration) (next : Configuration → Next) → ((k : ℕ) → left ≡ suc k → Less r (next (record r { left = k }))) → Less r (counting left r next)
+  joining_less : (f : Val → Val → Val) (r : Configuration) → r.pc < n → Less r (joining f (behind r))
+  joining_less f r w e = top_less r.stack r (behind r) _ (λ y s e. top_less s r (record (behind r) { stack = s }) _ (λ x s e. further r (r.pc + 1) w (omega arith)) e) e
+
+  counting_less : (left : ℕ) (r : Configuration) (next : Configuration → Next) → ((k : ℕ) → left ≡ suc k → Less r (next (record (behind r) { statements_left = k }))) → Less r (counting left (behind r) next)
   counting_less zero r next h e = absurd e
   counting_less (suc k) r next h e = h k refl e
 
   -- to a place, after the statement was counted
-  counted_less : (k : ℕ) (r : Configuration) (q : ℕ) → r.left ≡ suc k → r.deeper < 2 ^ 32 → k * ceiling n + (rest n q r.deeper + waiting n r.frames) < measure n r
+  counted_less : (k : ℕ) (r : Configuration) (q : ℕ) → r.statements_left ≡ suc k → r.calls_left < 2 ^ 32 → k * ceiling n + (rest n q r.calls_left + waiting n r.frames) < measure n r
   counted_less k r q left d =
-      subst (λ x. k * ceiling n + (rest n q r.deeper + waiting n r.frames) < x * ceiling n + (rest n r.place r.deeper + waiting n r.frames)) (sym left)
-      (count_less k r.place q r.deeper r.frames r.frames d refl)
+      subst (λ x. k * ceiling n + (rest n q r.calls_left + waiting n r.frames) < x * ceiling n + (rest n r.pc r.calls_left + waiting n r.frames)) (sym left)
+      (count_less k r.pc q r.calls_left r.frames r.frames d refl)
 
-  settling_less : (k : ℤ) (r : Configuration) → r.place < n → Less r (settling k r)
-  settling_less (pos zero) r w e = absurd e
-  settling_less (pos (suc k)) r w e = further r (r.place + 1) w (omega arith)
-  settling_less (negsuc k) r w e = further r (r.place + 1) w (omega arith)
+  exiting_less : (k : ℤ) (r : Configuration) → r.pc < n → Less r (exiting_on_zero k (behind r))
+  exiting_less (pos zero) r w e = absurd e
+  exiting_less (pos (suc k)) r w e = further r (r.pc + 1) w (omega arith)
+  exiting_less (negsuc k) r w e = further r (r.pc + 1) w (omega arith)
 
-  entering_less : (d to : ℕ) (r : Configuration) → r.deeper ≡ d → r.place < n → Less r (entering d to r)
-  entering_less zero to r same w e = absurd e
-  entering_less (suc d) to r same w e =
-      subst (λ x. r.left * ceiling n + (rest n to d + (rest n (r.place + 1) (suc d) + waiting n r.frames)) < r.left * ceiling n + (rest n r.place x + waiting n r.frames)) (sym same) (enter_less r.left r.place to d r.frames w)
+  calling_less : (d to : ℕ) (r : Configuration) → r.calls_left ≡ d → r.pc < n → Less r (calling_block d to (behind r))
+  calling_less zero to r same w e = absurd e
+  calling_less (suc d) to r same w e =
+      subst (λ x. r.statements_left * ceiling n + (rest n to d + (rest n (r.pc + 1) (suc d) + waiting n r.frames)) < r.statements_left * ceiling n + (rest n r.pc x + waiting n r.frames)) (sym same) (enter_less r.statements_left r.pc to d r.frames w)
 
-  rounding_less : (frames : List Frame) (r : Configuration) → r.frames ≡ frames → r.place < n → Less r (rounding frames r)
-  rounding_less [] r same w e = absurd e
-  rounding_less (Loop zero start exit ∷ frames) r same w e = absurd e
-  rounding_less (Loop (suc left) start exit ∷ frames) r same w e = on_less r.left r.place (r.place + 1) r.deeper r.frames (Loop left start exit ∷ frames) w (omega arith) (sym (ap (waiting n) same))
-  rounding_less (Back place deeper ∷ frames) r same w e = absurd e
+  round_less : (frames : List Frame) (r : Configuration) → r.frames ≡ frames → r.pc < n → Less r (beginning_round frames (behind r))
+  round_less [] r same w e = absurd e
+  round_less (Loop zero start exit ∷ frames) r same w e = absurd e
+  round_less (Loop (suc left) start exit ∷ frames) r same w e = on_less r.statements_left r.pc (r.pc + 1) r.calls_left r.frames (Loop left start exit ∷ frames) w (omega arith) (sym (ap (waiting n) same))
+  round_less (Back place deeper ∷ frames) r same w e = absurd e
 
-  repeating_less : (k : ℕ) (frames : List Frame) (r : Configuration) → r.left ≡ suc k → r.deeper < 2 ^ 32 → Less r (repeating frames (record r { left = k }))
-  repeating_less k [] r left d e = absurd e
-  repeating_less k (Loop rounds start exit ∷ frames) r left d e = counted_less k r start left d
-  repeating_less k (Back place deeper ∷ frames) r left d e = absurd e
+  back_less : (k : ℕ) (frames : List Frame) (r : Configuration) → r.statements_left ≡ suc k → r.calls_left < 2 ^ 32 → Less r (looping_back frames (record (behind r) { statements_left = k }))
+  back_less k [] r left d e = absurd e
+  back_less k (Loop rounds start exit ∷ frames) r left d e = counted_less k r start left d
+  back_less k (Back place deeper ∷ frames) r left d e = absurd e
 
-  finishing_less : (frames : List Frame) (r : Configuration) → r.frames ≡ frames → r.place < n → Less r (finishing frames r)
-  finishing_less [] r same w e = absurd e
-  finishing_less (Loop left start exit ∷ frames) r same w e = on_less r.left r.place (r.place + 1) r.deeper r.frames frames w (omega arith) (sym (ap (waiting n) same))
-  finishing_less (Back place deeper ∷ frames) r same w e = absurd e
+  ending_less : (frames : List Frame) (r : Configuration) → r.frames ≡ frames → r.pc < n → Less r (ending_loop frames (behind r))
+  ending_less [] r same w e = absurd e
+  ending_less (Loop left start exit ∷ frames) r same w e = on_less r.statements_left r.pc (r.pc + 1) r.calls_left r.frames frames w (omega arith) (sym (ap (waiting n) same))
+  ending_less (Back place deeper ∷ frames) r same w e = absurd e
 
   -- out of a loop, after the statement was counted
-  breaking_less : (k : ℕ) (frames : List Frame) (r : Configuration) → r.left ≡ suc k → r.frames ≡ frames → r.deeper < 2 ^ 32 → Less r (breaking frames (record r { left = k }))
+  breaking_less : (k : ℕ) (frames : List Frame) (r : Configuration) → r.statements_left ≡ suc k → r.frames ≡ frames → r.calls_left < 2 ^ 32 → Less r (breaking frames (record (behind r) { statements_left = k }))
   breaking_less k [] r left same d e = absurd e
   breaking_less k (Loop rounds start exit ∷ frames) r left same d e =
-      subst (λ x. k * ceiling n + (rest n exit r.deeper + waiting n frames) < x * ceiling n + (rest n r.place r.deeper + waiting n r.frames)) (sym left)
-      (count_less k r.place exit r.deeper r.frames frames d (sym (ap (waiting n) same)))
+      subst (λ x. k * ceiling n + (rest n exit r.calls_left + waiting n frames) < x * ceiling n + (rest n r.pc r.calls_left + waiting n r.frames)) (sym left)
+      (count_less k r.pc exit r.calls_left r.frames frames d (sym (ap (waiting n) same)))
   breaking_less k (Back place deeper ∷ frames) r left same d e =
       let w : waiting n r.frames ≡ rest n place deeper + waiting n frames = ap (waiting n) same in
-      let m : r.left * ceiling n ≡ k * ceiling n + ceiling n = ap (λ x. x * ceiling n) left ∙ grind arith in
+      let m : r.statements_left * ceiling n ≡ k * ceiling n + ceiling n = ap (λ x. x * ceiling n) left ∙ grind arith in
       omega (arith, w, m, power_pos n (2 ^ 32))
 
-  act_less : (loaded : Loaded) (i : Instr) (r : Configuration) → r.place < n → r.deeper < 2 ^ 32 → Less r (act loaded i r)
-  act_less loaded (Push v) r w d e = further r (r.place + 1) w (omega arith)
-  act_less loaded (Load x) r w d e = further r (r.place + 1) w (omega arith)
-  act_less loaded LastCode r w d e = further r (r.place + 1) w (omega arith)
-  act_less loaded Success r w d e = further r (r.place + 1) w (omega arith)
-  act_less loaded (Store x) r w d e = top_less r.stack r _ (λ v s e. further r (r.place + 1) w (omega arith)) e
-  act_less loaded (Read x) r w d e = further r (r.place + 1) w (omega arith)
-  act_less loaded (ReadItem way t) r w d e = top_less r.stack r _ (λ v s e. further r (r.place + 1) w (omega arith)) e
-  act_less loaded (Write x) r w d e = top_less r.stack r _ (λ v s e. further r (r.place + 1) w (omega arith)) e
-  act_less loaded (WriteItem way t) r w d e = top_less r.stack r _ (λ y s e. top_less s (record r { stack = s }) _ (λ x s e. further r (r.place + 1) w (omega arith)) e) e
+  act_less : (loaded : Loaded) (i : Instr) (r : Configuration) → r.pc < n → r.calls_left < 2 ^ 32 → Less r (act loaded i (behind r))
+  act_less loaded (Push v) r w d e = further r (r.pc + 1) w (omega arith)
+  act_less loaded (Load x) r w d e = further r (r.pc + 1) w (omega arith)
+  act_less loaded LoadCode r w d e = further r (r.pc + 1) w (omega arith)
+  act_less loaded LoadSuccess r w d e = further r (r.pc + 1) w (omega arith)
+  act_less loaded (Store x) r w d e = top_less r.stack r (behind r) _ (λ v s e. further r (r.pc + 1) w (omega arith)) e
+  act_less loaded (Read x) r w d e = further r (r.pc + 1) w (omega arith)
+  act_less loaded (ReadItem way t) r w d e = top_less r.stack r (behind r) _ (λ v s e. further r (r.pc + 1) w (omega arith)) e
+  act_less loaded (Write x) r w d e = top_less r.stack r (behind r) _ (λ v s e. further r (r.pc + 1) w (omega arith)) e
+  act_less loaded (WriteItem way t) r w d e = top_less r.stack r (behind r) _ (λ y s e. top_less s r (record (behind r) { stack = s }) _ (λ x s e. further r (r.pc + 1) w (omega arith)) e) e
   act_less loaded (Transform tr) r w d e = changing_less _ r w e
-  act_less loaded Append r w d e = joining_less _ r w e
-  act_less loaded Limit r w d e = changing_less _ r w e
-  act_less loaded Argument r w d e = top_less r.stack r _ (λ v s e. further r (r.place + 1) w (omega arith)) e
-  act_less loaded (Call f) r w d e = further r (r.place + 1) w (omega arith)
-  act_less loaded Settle r w d e = settling_less r.env.rc r w e
-  act_less loaded (Enter b) r w d e = entering_less r.deeper _ r refl w e
+  act_less loaded Concat r w d e = joining_less _ r w e
+  act_less loaded PushArgument r w d e = top_less r.stack r (behind r) _ (λ v s e. further r (r.pc + 1) w (omega arith)) e
+  act_less loaded (CallFunction f) r w d e = further r (r.pc + 1) w (omega arith)
+  act_less loaded ExitOnZero r w d e = exiting_less r.env.rc r w e
+  act_less loaded (CallBlock b) r w d e = calling_less r.calls_left _ r refl w e
   act_less loaded (Binary op) r w d e = joining_less _ r w e
   act_less loaded Negate r w d e = changing_less _ r w e
   act_less loaded Not r w d e = changing_less _ r w e
-  act_less loaded Truth r w d e = changing_less _ r w e
+  act_less loaded ToBool r w d e = changing_less _ r w e
   act_less loaded (Match p) r w d e = changing_less _ r w e
-  act_less loaded (AndThen k) r w d e =
-      top_less r.stack r _ (λ v s e. (elim (is_true v) as (λ b. Less r (if b then go 1 (record r { stack = s }) else go (1 + k) r)) [
-        | true ↦ λ e. further r (r.place + 1) w (omega arith)
-        | false ↦ λ e. further r (r.place + (1 + k)) w (omega arith)
+  act_less loaded (JumpIfFalseOrPop k) r w d e =
+      top_less r.stack r (behind r) _ (λ v s e. (elim (is_true v) as (λ b. Less r (if b then moved (record (behind r) { stack = s }) else jump k (put v (record (behind r) { stack = s })))) [
+        | true ↦ λ e. further r (r.pc + 1) w (omega arith)
+        | false ↦ λ e. further r (r.pc + 1 + k) w (omega arith)
       ]) e) e
-  act_less loaded (OrElse k) r w d e =
-      top_less r.stack r _ (λ v s e. (elim (is_true v) as (λ b. Less r (if b then go (1 + k) r else go 1 (record r { stack = s }))) [
-        | true ↦ λ e. further r (r.place + (1 + k)) w (omega arith)
-        | false ↦ λ e. further r (r.place + 1) w (omega arith)
+  act_less loaded (JumpIfTrueOrPop k) r w d e =
+      top_less r.stack r (behind r) _ (λ v s e. (elim (is_true v) as (λ b. Less r (if b then jump k (put v (record (behind r) { stack = s })) else moved (record (behind r) { stack = s }))) [
+        | true ↦ λ e. further r (r.pc + 1 + k) w (omega arith)
+        | false ↦ λ e. further r (r.pc + 1) w (omega arith)
       ]) e) e
-  act_less loaded Forget r w d e = top_less r.stack r _ (λ v s e. further r (r.place + 1) w (omega arith)) e
-  act_less loaded Count r w d e = counting_less r.left r _ (λ k left e. counted_less k r (r.place + 1) left d) e
-  act_less loaded (PassUnless k) r w d e =
-      top_less r.stack r _ (λ v s e. (elim (is_true v) as (λ b. Less r (if b then go 1 (record r { stack = s }) else go (1 + k) (record r { stack = s }))) [
-        | true ↦ λ e. further r (r.place + 1) w (omega arith)
-        | false ↦ λ e. further r (r.place + (1 + k)) w (omega arith)
+  act_less loaded Pop r w d e = top_less r.stack r (behind r) _ (λ v s e. further r (r.pc + 1) w (omega arith)) e
+  act_less loaded CountStatement r w d e = counting_less r.statements_left r _ (λ k left e. counted_less k r (r.pc + 1) left d) e
+  act_less loaded (JumpIfFalse k) r w d e =
+      top_less r.stack r (behind r) _ (λ v s e. (elim (is_true v) as (λ b. Less r (if b then moved (record (behind r) { stack = s }) else jump k (record (behind r) { stack = s }))) [
+        | true ↦ λ e. further r (r.pc + 1) w (omega arith)
+        | false ↦ λ e. further r (r.pc + 1 + k) w (omega arith)
       ]) e) e
-  act_less loaded (Pass k) r w d e = further r (r.place + (1 + k)) w (omega arith)
+  act_less loaded (Jump k) r w d e = further r (r.pc + 1 + k) w (omega arith)
   act_less loaded (Case label k) r w d e =
-      top_less r.stack r _ (λ v s e. (elim (is_label v label) as (λ b. Less r (if b then go 1 (record r { stack = s }) else go (1 + k) r)) [
-        | true ↦ λ e. further r (r.place + 1) w (omega arith)
-        | false ↦ λ e. further r (r.place + (1 + k)) w (omega arith)
+      top_less r.stack r (behind r) _ (λ v s e. (elim (is_label v label) as (λ b. Less r (if b then moved (record (behind r) { stack = s }) else jump k (put v (record (behind r) { stack = s })))) [
+        | true ↦ λ e. further r (r.pc + 1) w (omega arith)
+        | false ↦ λ e. further r (r.pc + 1 + k) w (omega arith)
       ]) e) e
-  act_less loaded (Begin k) r w d e = further r (r.place + 1) w (omega arith)
-  act_less loaded Round r w d e = rounding_less r.frames r refl w e
-  act_less loaded Again r w d e = counting_less r.left r _ (λ k left e. repeating_less k r.frames r left d e) e
-  act_less loaded Finish r w d e = finishing_less r.frames r refl w e
-  act_less loaded Break r w d e = counting_less r.left r _ (λ k left e. breaking_less k r.frames r left refl d e) e
-  act_less loaded Return r w d e = top_less r.stack r _ (λ v s e. leave_less r.frames _ _ r (record r { stack = s }) w refl refl e) e
+  act_less loaded (BeginLoop k) r w d e = further r (r.pc + 1) w (omega arith)
+  act_less loaded BeginRound r w d e = round_less r.frames r refl w e
+  act_less loaded LoopBack r w d e = counting_less r.statements_left r _ (λ k left e. back_less k r.frames r left d e) e
+  act_less loaded EndLoop r w d e = ending_less r.frames r refl w e
+  act_less loaded Break r w d e = counting_less r.statements_left r _ (λ k left e. breaking_less k r.frames r left refl d e) e
+  act_less loaded Return r w d e = top_less r.stack r (behind r) _ (λ v s e. leave_less r.frames _ _ r (record (behind r) { stack = s }) w refl refl e) e
   act_less loaded Exit r w d e = absurd e
   act_less loaded Drop r w d e = absurd e
-  act_less loaded EndBlock r w d e = leave_less r.frames _ _ r r w refl refl e
+  act_less loaded EndBlock r w d e = leave_less r.frames _ _ r (behind r) w refl refl e
 
-fetched_less : (loaded : Loaded) (r : Configuration) → r.deeper < 2 ^ 32 → (o : Option Instr) → slice_get loaded.code.instrs r.place ≡ o → Less (length loaded.code.instrs) r (fetched loaded o r)
+fetched_less : (loaded : Loaded) (r : Configuration) → r.calls_left < 2 ^ 32 → (o : Option Instr) → slice_get loaded.code.instrs r.pc ≡ o → Less (length loaded.code.instrs) r (fetched loaded o r)
 fetched_less loaded r d None same e = absurd e
-fetched_less loaded r d (Some i) same e = act_less (length loaded.code.instrs) loaded i r (slice_get_within loaded.code.instrs r.place i same) d e
+fetched_less loaded r d (Some i) same e = act_less (length loaded.code.instrs) loaded i r (slice_get_within loaded.code.instrs r.pc i same) d e
 
 -- each instruction after which the run isn't over makes the measure smaller
-pub smaller : (loaded : Loaded) (r r' : Configuration) (event : Event) → step_of loaded r ≡ record { event = event; run = r' } → GoesOn event → r.deeper < 2 ^ 32 → work_left loaded r' < work_left loaded r
+pub smaller : (loaded : Loaded) (r r' : Configuration) (event : Event) → step_of loaded r ≡ record { event = event; run = r' } → GoesOn event → r.calls_left < 2 ^ 32 → work_left loaded r' < work_left loaded r
 unfolding work_left
 smaller loaded r r' event is goes d =
     let e : GoesOn (step_of loaded r).event = subst GoesOn (sym (ap (λ x. x.event) is)) goes in
-    let a = fetched_less loaded r d (slice_get loaded.code.instrs r.place) refl e in
+    let a = fetched_less loaded r d (slice_get loaded.code.instrs r.pc) refl e in
     let same : (step_of loaded r).run ≡ r' = ap (λ x. x.run) is in
     subst (λ x. measure (length loaded.code.instrs) x < measure (length loaded.code.instrs) r) same a
+
+-- the same with other patterns
+pub smaller_by : (patterns : List (List ℕ)) (loaded : Loaded) (r r' : Configuration) (event : Event) → step_of (with_patterns patterns loaded) r ≡ record { event = event; run = r' } → GoesOn event → r.calls_left < 2 ^ 32 →
+    work_left loaded r' < work_left loaded r
+unfolding work_left
+smaller_by patterns loaded r r' event is goes d = smaller (with_patterns patterns loaded) r r' event is goes d
 
 -- an answer leaves it
 pub told_leaves : (loaded : Loaded) (answer : HostAnswer) (w : Wait) (r : Configuration) → work_left loaded (told_as w answer r) ≡ work_left loaded r
 unfolding work_left
 told_leaves loaded answer wait.Start r = refl
 told_leaves loaded answer wait.Value r = refl
+told_leaves loaded answer wait.ItemValue r = refl
 told_leaves loaded answer wait.Written r = refl
+told_leaves loaded answer wait.ItemWritten r = refl
 told_leaves loaded answer wait.Code r = refl
+told_leaves loaded answer (wait.Over h) r = refl

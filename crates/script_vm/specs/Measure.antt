@@ -15,16 +15,16 @@ ceiling n = power (suc n) (2 ^ 32)
 
 -- what is left of a block
 abbrev pub rest : ℕ → ℕ → ℕ → ℕ
-rest n place deeper = (n - place) * power (suc n) deeper
+rest n pc calls = (n - pc) * power (suc n) calls
 
 -- what is left of the blocks that wait
 abbrev pub waiting : ℕ → List Frame → ℕ
 waiting n [] = 0
-waiting n (Loop left start exit ∷ frames) = waiting n frames
-waiting n (Back place deeper ∷ frames) = rest n place deeper + waiting n frames
+waiting n (Loop rounds start exit ∷ frames) = waiting n frames
+waiting n (Back pc calls ∷ frames) = rest n pc calls + waiting n frames
 
 abbrev pub measure : ℕ → Configuration → ℕ
-measure n r = r.left * ceiling n + (rest n r.place r.deeper + waiting n r.frames)
+measure n r = r.statements_left * ceiling n + (rest n r.pc r.calls_left + waiting n r.frames)
 
 -- how much a run may still do
 unfoldable pub work_left : Loaded → Configuration → ℕ

@@ -1,244 +1,249 @@
-// What each instruction does: jumps, counts, loops and blocks.
+//! What each instruction does: jumps, counts, loops and blocks.
 
-ghost use Rattle.std.specs.Prelude.{◌≡◌, ◌+◌, ◌<◌, ◌^◌, IfOk};
-ghost use Rattle.cfg_code.specs.Machine.{go, settling, entering, and_then, or_else, passing_unless, casing, counting, beginning, rounding, repeating, finishing, breaking, leave, returning};
-ghost use Rattle.script_vm.specs.Running.{configuration, Comes};
+ghost use Rattle.std.specs.Prelude.{◌≡◌, ◌+◌, ◌<◌, ◌^◌, [], ◌∷◌, MatchOption};
+ghost use Rattle.cfg_code.specs.Machine.{moved, over, jump, exiting_on_zero, calling_block, jumping_if_false_or_pop, jumping_if_true_or_pop, jumping_if_false, casing, counting, beginning_loop, beginning_round, looping_back, ending_loop, breaking, leave, returning};
+ghost use Rattle.script_vm.specs.Running.{Comes};
 
 use crate::operand::{ending, returned_code};
 use crate::run::Run;
-use cfg_code::{Event, Frame};
+use crate::stop::Stop;
+use cfg_code::{Frame, Wait};
 use pv_values::operator::is_same;
 use pv_values::{How, Val, truth};
-use std::alloc::AllocError as NoMemory;
 
 impl Run {
-    /// Passes so many instructions.
-    pub(crate) fn pass(&mut self, n: u32) -> Event
-        requires { self.old.place < 2 ^ 63 }
-        ensures { Comes (go (1 + n) (configuration self.old)) result self.new }
+    /// Ends the run.
+    pub(crate) fn over(&mut self, how: How) -> Result<(), Stop>
+        ensures { Comes (over how self.old) result self.new }
     {
-        self.place += 1 + n as usize;
-        Event::Moved
+        self.wait = Wait::Over(how);
+        Err(Stop::Over)
     }
 
-    pub(crate) fn settle(&mut self) -> Event
-        requires { self.old.place < 2 ^ 63 }
-        ensures { Comes (settling self.old.env.rc (configuration self.old)) result self.new }
+    /// Goes on behind so many instructions.
+    pub(crate) fn jump(&mut self, n: u32) -> Result<(), Stop>
+        requires { self.old.pc < 2 ^ 63 }
+        ensures { Comes (jump n self.old) result self.new }
+    {
+        self.pc += n as usize;
+        Ok(())
+    }
+
+    pub(crate) fn exit_on_zero(&mut self) -> Result<(), Stop>
+        ensures { Comes (exiting_on_zero self.old.env.rc self.old) result self.new }
     {
         if self.env.rc == 0 {
-            return Event::Over(How::Exit);
+            return self.over(How::Exit);
         }
-        self.go(1)
+        Ok(())
     }
 
-    pub(crate) fn enter(&mut self, to: usize) -> Result<Event, NoMemory>
-        requires { self.old.place < 2 ^ 63 }
-        ensures { IfOk result (λ event. Comes (entering self.old.deeper to (configuration self.old)) event self.new) }
+    /// Calls the block that begins there.
+    pub(crate) fn call_block(&mut self, to: usize) -> Result<(), Stop>
+        ensures { Comes (calling_block self.old.calls_left to self.old) result self.new }
     {
-        if self.deeper == 0 {
-            return Ok(Event::Over(How::DepthLimit));
+        if self.calls_left == 0 {
+            return self.over(How::DepthLimit);
         }
         self.frames.push(Frame::Back {
-            place: self.place + 1,
-            deeper: self.deeper,
+            pc: self.pc,
+            calls_left: self.calls_left,
         })?;
-        self.deeper -= 1;
-        self.place = to;
-        Ok(Event::Moved)
+        self.calls_left -= 1;
+        self.pc = to;
+        Ok(())
     }
 
-    pub(crate) fn and_then(&mut self, n: u32) -> Result<Event, NoMemory>
-        requires { self.old.place < 2 ^ 63 }
-        ensures { IfOk result (λ event. Comes (and_then n (configuration self.old)) event self.new) }
+    pub(crate) fn jump_if_false(&mut self, n: u32) -> Result<(), Stop>
+        requires { self.old.pc < 2 ^ 63 }
+        ensures { Comes (jumping_if_false n self.old) result self.new }
     {
-        let Some(v) = self.stack.pop() else {
-            return Ok(Event::Stuck);
-        };
+        let v = self.pop()?;
         if truth(&v) {
-            return Ok(self.go(1));
+            return Ok(());
         }
-        self.stack.push(v)?;
-        Ok(self.pass(n))
+        self.jump(n)
     }
 
-    pub(crate) fn or_else(&mut self, n: u32) -> Result<Event, NoMemory>
-        requires { self.old.place < 2 ^ 63 }
-        ensures { IfOk result (λ event. Comes (or_else n (configuration self.old)) event self.new) }
+    pub(crate) fn jump_if_false_or_pop(&mut self, n: u32) -> Result<(), Stop>
+        requires { self.old.pc < 2 ^ 63 }
+        ensures { Comes (jumping_if_false_or_pop n self.old) result self.new }
     {
-        let Some(v) = self.stack.pop() else {
-            return Ok(Event::Stuck);
-        };
+        let v = self.pop()?;
         if truth(&v) {
-            self.stack.push(v)?;
-            return Ok(self.pass(n));
+            return Ok(());
         }
-        Ok(self.go(1))
+        self.push(v)?;
+        self.jump(n)
     }
 
-    pub(crate) fn pass_unless(&mut self, n: u32) -> Event
-        requires { self.old.place < 2 ^ 63 }
-        ensures { Comes (passing_unless n (configuration self.old)) result self.new }
+    pub(crate) fn jump_if_true_or_pop(&mut self, n: u32) -> Result<(), Stop>
+        requires { self.old.pc < 2 ^ 63 }
+        ensures { Comes (jumping_if_true_or_pop n self.old) result self.new }
     {
-        let Some(v) = self.stack.pop() else {
-            return Event::Stuck;
-        };
-        if truth(&v) {
-            return self.go(1);
+        let v = self.pop()?;
+        if !truth(&v) {
+            return Ok(());
         }
-        self.pass(n)
+        self.push(v)?;
+        self.jump(n)
     }
 
-    pub(crate) fn case(&mut self, label: &Val, n: u32) -> Result<Event, NoMemory>
-        requires { self.old.place < 2 ^ 63 }
-        ensures { IfOk result (λ event. Comes (casing label.now n (configuration self.old)) event self.new) }
+    pub(crate) fn case(&mut self, label: &Val, n: u32) -> Result<(), Stop>
+        requires { self.old.pc < 2 ^ 63 }
+        ensures { Comes (casing label.now n self.old) result self.new }
     {
-        let Some(v) = self.stack.pop() else {
-            return Ok(Event::Stuck);
-        };
+        let v = self.pop()?;
         if is_same(&v, label) {
-            return Ok(self.go(1));
+            return Ok(());
         }
-        self.stack.push(v)?;
-        Ok(self.pass(n))
+        self.push(v)?;
+        self.jump(n)
     }
 
-    /// Counts a statement, and goes on, unless it is one too many.
-    pub(crate) fn count(&mut self) -> Event
-        requires { self.old.place < 2 ^ 63 }
-        ensures { Comes (counting self.old.left (configuration self.old) (go 1)) result self.new }
+    /// Counts a statement, or ends the run where it is one too many.
+    pub(crate) fn count_statement(&mut self) -> Result<(), Stop>
+        ensures { Comes (counting self.old.statements_left self.old moved) result self.new }
     {
-        if self.left == 0 {
-            return Event::Over(How::ActionLimit);
+        if self.statements_left == 0 {
+            return self.over(How::ActionLimit);
         }
-        self.left -= 1;
-        self.go(1)
+        self.statements_left -= 1;
+        Ok(())
     }
 
-    pub(crate) fn begin_loop(&mut self, max_rounds: u32, n: u32) -> Result<Event, NoMemory>
-        requires { self.old.place < 2 ^ 63 }
-        ensures { IfOk result (λ event. Comes (beginning max_rounds n (configuration self.old)) event self.new) }
+    pub(crate) fn begin_loop(&mut self, max_rounds: u32, n: u32) -> Result<(), Stop>
+        requires { self.old.pc < 2 ^ 63 }
+        ensures { Comes (beginning_loop max_rounds n self.old) result self.new }
     {
         self.frames.push(Frame::Loop {
-            left: max_rounds,
-            start: self.place + 1,
-            exit: self.place + 1 + n as usize,
+            rounds_left: max_rounds,
+            start: self.pc,
+            exit: self.pc + n as usize,
         })?;
-        Ok(self.go(1))
+        Ok(())
     }
 
-    pub(crate) fn round(&mut self) -> Result<Event, NoMemory>
-        requires { self.old.place < 2 ^ 63 }
-        ensures { IfOk result (λ event. Comes (rounding self.old.frames (configuration self.old)) event self.new) }
+    pub(crate) fn begin_round(&mut self) -> Result<(), Stop>
+        ensures { Comes (beginning_round self.old.frames self.old) result self.new }
     {
-        match self.frames.pop() {
-            Some(Frame::Loop { left, start, exit }) => {
-                let fewer = left.saturating_sub(1);
-                self.frames.push(Frame::Loop {
-                    left: fewer,
-                    start,
-                    exit,
-                })?;
-                if left == 0 {
-                    return Ok(Event::Over(How::LoopLimit));
-                }
-                Ok(self.go(1))
-            }
-            Some(frame) => {
-                self.frames.push(frame)?;
-                Ok(Event::Stuck)
-            }
-            None => Ok(Event::Stuck),
+        let Some(
+            Frame::Loop {
+                rounds_left,
+                start,
+                exit,
+            },
+        ) = self.frames.pop()
+        else {
+            return Err(Stop::Stuck);
+        };
+        self.frames.push(Frame::Loop {
+            rounds_left: rounds_left.saturating_sub(1),
+            start,
+            exit,
+        })?;
+        if rounds_left == 0 {
+            return self.over(How::LoopLimit);
         }
+        Ok(())
     }
 
-    fn repeat(&mut self) -> Result<Event, NoMemory>
-        ensures { IfOk result (λ event. Comes (repeating self.old.frames (configuration self.old)) event self.new) }
+    /// Goes to the beginning of the loop.
+    fn repeat(&mut self) -> Result<(), Stop>
+        ensures { Comes (looping_back self.old.frames self.old) result self.new }
     {
-        match self.frames.pop() {
-            Some(Frame::Loop { left, start, exit }) => {
-                self.frames.push(Frame::Loop { left, start, exit })?;
-                self.place = start;
-                Ok(Event::Moved)
-            }
-            Some(frame) => {
-                self.frames.push(frame)?;
-                Ok(Event::Stuck)
-            }
-            None => Ok(Event::Stuck),
-        }
+        let Some(
+            Frame::Loop {
+                rounds_left,
+                start,
+                exit,
+            },
+        ) = self.frames.pop()
+        else {
+            return Err(Stop::Stuck);
+        };
+        self.frames.push(Frame::Loop {
+            rounds_left,
+            start,
+            exit,
+        })?;
+        self.pc = start;
+        Ok(())
     }
 
-    pub(crate) fn again(&mut self) -> Result<Event, NoMemory>
-        ensures { IfOk result (λ event. Comes (counting self.old.left (configuration self.old) (λ r. repeating r.frames r)) event self.new) }
+    /// Counts a statement, the loop's next test, and goes there.
+    pub(crate) fn loop_back(&mut self) -> Result<(), Stop>
+        ensures { Comes (counting self.old.statements_left self.old (λ r. looping_back r.frames r)) result self.new }
     {
-        if self.left == 0 {
-            return Ok(Event::Over(How::ActionLimit));
+        if self.statements_left == 0 {
+            return self.over(How::ActionLimit);
         }
-        self.left -= 1;
+        self.statements_left -= 1;
         self.repeat()
     }
 
-    pub(crate) fn finish(&mut self) -> Result<Event, NoMemory>
-        requires { self.old.place < 2 ^ 63 }
-        ensures { IfOk result (λ event. Comes (finishing self.old.frames (configuration self.old)) event self.new) }
+    pub(crate) fn end_loop(&mut self) -> Result<(), Stop>
+        ensures { Comes (ending_loop self.old.frames self.old) result self.new }
     {
         match self.frames.pop() {
-            Some(Frame::Loop { .. }) => Ok(self.go(1)),
-            Some(frame) => {
-                self.frames.push(frame)?;
-                Ok(Event::Stuck)
-            }
-            None => Ok(Event::Stuck),
+            Some(Frame::Loop { .. }) => Ok(()),
+            _ => Err(Stop::Stuck),
         }
     }
 
-    fn break_off(&mut self) -> Result<Event, NoMemory>
-        ensures { IfOk result (λ event. Comes (breaking self.old.frames (configuration self.old)) event self.new) }
+    /// Goes out of the loop or `switch`, or of the block.
+    fn break_off(&mut self) -> Result<(), Stop>
+        ensures { Comes (breaking self.old.frames self.old) result self.new }
     {
         match self.frames.pop() {
             Some(Frame::Loop { exit, .. }) => {
-                self.place = exit;
-                Ok(Event::Moved)
+                self.pc = exit;
+                Ok(())
             }
             Some(frame) => {
                 self.frames.push(frame)?;
-                Ok(self.leave(1, How::Normal))
+                self.leave(1, How::Normal)
             }
-            None => Ok(self.leave(1, How::Normal)),
+            None => self.leave(1, How::Normal),
         }
     }
 
-    pub(crate) fn count_and_break(&mut self) -> Result<Event, NoMemory>
-        ensures { IfOk result (λ event. Comes (counting self.old.left (configuration self.old) (λ r. breaking r.frames r)) event self.new) }
+    pub(crate) fn count_and_break(&mut self) -> Result<(), Stop>
+        ensures { Comes (counting self.old.statements_left self.old (λ r. breaking r.frames r)) result self.new }
     {
-        if self.left == 0 {
-            return Ok(Event::Over(How::ActionLimit));
+        if self.statements_left == 0 {
+            return self.over(How::ActionLimit);
         }
-        self.left -= 1;
+        self.statements_left -= 1;
         self.break_off()
     }
 
-    /// Back with a code to the block that waits, or to the end of the run.
-    pub(crate) fn leave(&mut self, code: i64, how: How) -> Event
-        ensures { Comes (leave self.old.frames code how (configuration self.old)) result self.new }
+    /// Takes the topmost loop or block.
+    fn pop_frame(&mut self) -> Option<Frame>
+        ensures { MatchOption result ((self.old.frames ≡ []) × (self.new ≡ self.old)) (λ f. self.old ≡ record self.new { frames = f ∷ self.new.frames }) }
     {
-        while let Some(frame) = self.frames.pop() {
-            if let Frame::Back { place, deeper } = frame {
-                self.env.rc = code;
-                self.place = place;
-                self.deeper = deeper;
-                return Event::Moved;
-            }
-        }
-        Event::Over(how)
+        self.frames.pop()
     }
 
-    pub(crate) fn return_top(&mut self) -> Event
-        ensures { Comes (returning (configuration self.old)) result self.new }
+    /// Back with a code to the block that waits, or to the end of the run.
+    pub(crate) fn leave(&mut self, code: i64, how: How) -> Result<(), Stop>
+        ensures { Comes (leave self.old.frames code how self.old) result self.new }
     {
-        let Some(v) = self.stack.pop() else {
-            return Event::Stuck;
-        };
+        while let Some(frame) = self.pop_frame() {
+            if let Frame::Back { pc, calls_left } = frame {
+                self.env.rc = code;
+                self.pc = pc;
+                self.calls_left = calls_left;
+                return Ok(());
+            }
+        }
+        self.over(how)
+    }
+
+    pub(crate) fn return_top(&mut self) -> Result<(), Stop>
+        ensures { Comes (returning self.old) result self.new }
+    {
+        let v = self.pop()?;
         let code = returned_code(&v);
         self.leave(code, ending(code))
     }

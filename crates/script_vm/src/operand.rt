@@ -1,65 +1,37 @@
-// What is made of values.
+//! What is made of values.
 
 ghost use Rattle.std.specs.Prelude.{◌≡◌, IfOk, slice_get};
-ghost use Rattle.pv_values.specs.Values.{limited, text_of, negated, code_of, told_value, told_code};
-ghost use Rattle.cfg_tree.specs.Meaning.{item_of, matched, end_of};
-ghost use Rattle.cfg_code.specs.Machine.{text_with};
+ghost use Rattle.pv_values.specs.Values.{negated, code_of, value_read, told_value, told_code};
+ghost use Rattle.cfg_tree.specs.Meaning.{matched, end_of};
 
-use cfg_tree::TableUse;
 use pv_values::operator::text_value;
-use pv_values::{BinOp, HostAnswer, How, Key, Patterns, PvUse, Text, Val, as_int, as_text, binary};
+use pv_values::{BinOp, HostAnswer, How, Matchers, Val, as_int, as_text, binary};
 use std::alloc::{AllocError as NoMemory, Global};
 
-/// A text with another behind it.
-pub fn appended(alloc: Global, front: &Val, back: &Val) -> Result<Val, NoMemory>
-    ensures { IfOk result (λ v. v ≡ text_with front.now back.now) }
-{
-    let front = as_text(alloc, front)?;
-    let back = as_text(alloc, back)?;
-    let mut whole = Vec::from_slice(alloc, front.bytes())?;
-    whole.extend_from_slice(back.bytes())?;
-    Ok(Val::Text(Text::of(whole)))
-}
-
-/// A text, or `$null` where it is above 8,192 bytes.
-pub fn limit(alloc: Global, v: &Val) -> Result<Val, NoMemory>
-    ensures { IfOk result (λ w. w ≡ limited (text_of v.now)) }
-{
-    Ok(text_value(as_text(alloc, v)?))
-}
-
 /// 0 without a number.
-pub fn negative(alloc: Global, v: &Val) -> Result<Val, NoMemory>
-    ensures { IfOk result (λ w. w ≡ negated v.now) }
+pub fn negative(alloc: Global, v: Val) -> Result<Val, NoMemory>
+    ensures { IfOk result (λ w. w ≡ negated v) }
 {
-    binary(alloc, BinOp::Sub, &Val::Int(0), v)
+    binary(alloc, BinOp::Sub, Val::Int(0), v)
 }
 
 /// The pattern of this number matches in a value.
-pub fn matches(alloc: Global, patterns: &Patterns, number: u32, v: &Val) -> Result<bool, NoMemory>
-    ensures { IfOk result (λ found. found ≡ matched (slice_get patterns.now number) v.now) }
+#[tactic(auto, using(crate::proofs::Matches::null_matched, crate::proofs::Matches::number_matched, crate::proofs::Matches::text_matched))]
+pub fn matches(
+    alloc: Global,
+    matchers: &mut Matchers,
+    number: u32,
+    v: &Val,
+) -> Result<bool, NoMemory>
+    ensures found { IfOk result (λ found. found ≡ matched (slice_get matchers.old number) v.now) }
+    ensures same { matchers.new ≡ matchers.old }
 {
-    let Some(pattern) = sqlite_items::at(patterns.as_slice(), number as usize) else {
-        return Ok(false);
+    let found = match v {
+        Val::Null => None,
+        Val::Int(_) => matchers.is_match(number, as_text(alloc, v)?.bytes()),
+        Val::Text(text) => matchers.is_match(number, text.bytes()),
     };
-    match v {
-        Val::Null => Ok(false),
-        Val::Int(_) => pattern.is_match(alloc, as_text(alloc, v)?.bytes()),
-        Val::Text(text) => pattern.is_match(alloc, text.bytes()),
-    }
-}
-
-/// The item of a table under the text of a key.
-pub fn item(alloc: Global, way: TableUse, table: u32, key: &Val) -> Result<PvUse, NoMemory>
-    ensures { IfOk result (λ v. v ≡ item_of way table (text_of key.now)) }
-{
-    let key = Key::of(as_text(alloc, key)?);
-    match way {
-        TableUse::Item => Ok(PvUse::Item(table, key)),
-        TableUse::Seconds => Ok(PvUse::ItemSeconds(table, key)),
-        TableUse::Increment => Ok(PvUse::ItemIncrement(table, key)),
-        TableUse::Decrement => Ok(PvUse::ItemDecrement(table, key)),
-    }
+    Ok(found.unwrap_or(false))
 }
 
 /// What a `return` with this value returns.
@@ -88,8 +60,18 @@ pub fn answered_value(answer: HostAnswer) -> Val
     ensures { result ≡ told_value answer }
 {
     match answer {
-        HostAnswer::Value(v) => v,
+        HostAnswer::Value(v) => read_value(v),
         _ => Val::Null,
+    }
+}
+
+/// A value that is read: a text above 8,192 bytes is `$null`.
+fn read_value(v: Val) -> Val
+    ensures { result ≡ value_read v }
+{
+    match v {
+        Val::Text(text) => text_value(text),
+        other => other,
     }
 }
 

@@ -1,4 +1,4 @@
-// A whole run on a list of answers.
+//! A whole run on a list of answers.
 
 ghost use Rattle.std.specs.Prelude.{◌≡◌, IfOk};
 ghost use Rattle.cfg_tree.specs.Meaning.{meaning};
@@ -6,7 +6,7 @@ ghost use Rattle.cfg_tree.specs.declared.script.Script.{Script};
 ghost use Rattle.cfg_code.specs.Follows.{Stands};
 ghost use Rattle.script_vm.specs.Play.{IsPlayed};
 
-use crate::run::{Run, RunNext};
+use crate::run::{Run, Went};
 use cfg_code::Loaded;
 use pv_values::{Env, HostAnswer, HostAsk, How};
 use std::alloc::{AllocError as NoMemory, Global};
@@ -26,6 +26,9 @@ pub enum Played {
 pub fn play(alloc: Global, loaded: &Loaded, block: u32, env: Env, answers: &[HostAnswer]) -> Played
     ensures { (script : Script) → Stands loaded.now script → IsPlayed (meaning script block env answers.now) answers.now result }
 {
+    let Ok(mut matchers) = loaded.patterns.matchers(alloc) else {
+        return Played::NoMemory;
+    };
     let Ok(begun) = Run::begin(alloc, loaded, block, env) else {
         return Played::NoMemory;
     };
@@ -33,26 +36,30 @@ pub fn play(alloc: Global, loaded: &Loaded, block: u32, env: Env, answers: &[Hos
     let mut answer = HostAnswer::Start;
     let mut taken = 0;
     'answers: loop {
-        match run.feed(alloc, loaded, answer) {
-            RunNext::Asks(next, ask) => {
+        match run.advance(alloc, loaded, answer, &mut matchers) {
+            Went::Asks => {
                 if taken >= answers.len() {
+                    let Ok(ask) = run.asked(loaded).copied(alloc) else {
+                        return Played::NoMemory;
+                    };
                     return Played::Needs(ask);
                 }
-                drop(ask);
-                let Ok(copy) = copied(alloc, &answers[taken]) else {
+                let Ok(copy) = answer_copy(alloc, &answers[taken]) else {
                     return Played::NoMemory;
                 };
                 answer = copy;
                 taken += 1;
-                run = next;
             }
-            RunNext::Ended(env, how) => return Played::Ended(env, how, taken),
-            RunNext::NoMemory => return Played::NoMemory,
+            Went::Ended => {
+                let (env, how) = run.close(alloc);
+                return Played::Ended(env, how, taken);
+            }
+            Went::NoMemory => return Played::NoMemory,
         }
     }
 }
 
-fn copied(alloc: Global, answer: &HostAnswer) -> Result<HostAnswer, NoMemory>
+fn answer_copy(alloc: Global, answer: &HostAnswer) -> Result<HostAnswer, NoMemory>
     ensures { IfOk result (λ a. a ≡ answer.now) }
 {
     match answer {

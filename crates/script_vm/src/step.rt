@@ -1,314 +1,255 @@
-// What each instruction does: values, and asks.
+//! What each instruction does: values, and asks.
 
-ghost use Rattle.std.specs.Prelude.{◌≡◌, ◌<◌, ◌^◌, IfOk, not, slice_get, slice_index_or};
-ghost use Rattle.pv_values.specs.Values.{binary_value, negated, limited, text_of, bit, is_true};
+ghost use Rattle.std.specs.Prelude.{◌≡◌, ◌<◌, ◌^◌, IfOk, IfErr, not, slice_get, slice_index_or, []};
+ghost use Rattle.pv_values.specs.Values.{sum_of, binary_value, negated, bit, is_true};
 ghost use Rattle.cfg_tree.specs.Transformations.{transformed};
-ghost use Rattle.cfg_tree.specs.Meaning.{item_of, matched};
-ghost use Rattle.cfg_code.specs.Machine.{put, go, storing, asking, reading_under, writing, writing_under, changing, joining, text_with, adding_argument, calling, on_top, act, step_of};
-ghost use Rattle.script_vm.specs.Running.{configuration, Comes};
+ghost use Rattle.cfg_tree.specs.Meaning.{matched};
+ghost use Rattle.cfg_code.specs.Machine.{moved, put, storing, asking, reading_item, writing, writing_item, changing, joining, pushing_argument, on_top, act, step_of};
+ghost use Rattle.script_vm.specs.Running.{Comes, with_patterns};
 
-use crate::operand::{appended, item, limit, matches, negative};
+use crate::operand::{matches, negative};
 use crate::run::Run;
-use cfg_code::{Event, Instr, Loaded, Wait};
-use cfg_tree::{TableUse, transform};
-use pv_values::operator::bit_value;
-use pv_values::{
-    BinOp, Func, HostAsk, How, Patterns, PvUse, Transformation, Val, Vals, binary, truth,
-};
-use std::alloc::{AllocError as NoMemory, Global};
-use std::mem;
+use crate::stop::Stop;
+use cfg_code::{Instr, Loaded, Wait};
+use cfg_tree::transform;
+use pv_values::operator::{bit_value, sum};
+use pv_values::value::into_text;
+use pv_values::{BinOp, How, Matchers, Transformation, Val, binary, truth};
+use std::alloc::Global;
 
 impl Run {
-    /// Goes on by so many instructions.
-    pub(crate) fn go(&mut self, n: u32) -> Event
-        requires { self.old.place < 2 ^ 63 }
-        ensures { Comes (go n (configuration self.old)) result self.new }
+    /// Takes the topmost value.
+    pub(crate) fn pop(&mut self) -> Result<Val, Stop>
+        ensures value { IfOk result (λ v. self.old ≡ put v self.new) }
+        ensures stuck { IfErr result (λ e. (e ≡ Stop.Stuck) × (self.old.stack ≡ [])) }
     {
-        self.place += n as usize;
-        Event::Moved
+        match self.stack.pop() {
+            Some(v) => Ok(v),
+            None => Err(Stop::Stuck),
+        }
     }
 
-    /// Leaves a value.
-    pub(crate) fn put(&mut self, v: Val) -> Result<Event, NoMemory>
-        requires { self.old.place < 2 ^ 63 }
-        ensures { IfOk result (λ event. Comes (put v (configuration self.old)) event self.new) }
+    /// Puts a value on top.
+    pub(crate) fn push(&mut self, v: Val) -> Result<(), Stop>
+        ensures value { IfOk result (λ _. self.new ≡ put v self.old) }
+        ensures memory { IfErr result (λ e. e ≡ Stop.NoMemory) }
     {
         self.stack.push(v)?;
-        Ok(self.go(1))
+        Ok(())
     }
 
-    fn load(&mut self, alloc: Global, x: u32) -> Result<Event, NoMemory>
-        requires { self.old.place < 2 ^ 63 }
-        ensures { IfOk result (λ event. Comes (put (slice_index_or self.old.env.vars x Val.Null) (configuration self.old)) event self.new) }
+    /// The same as an instruction.
+    pub(crate) fn put(&mut self, v: Val) -> Result<(), Stop>
+        ensures { Comes (moved (put v self.old)) result self.new }
+    {
+        self.stack.push(v)?;
+        Ok(())
+    }
+
+    fn load(&mut self, alloc: Global, x: u32) -> Result<(), Stop>
+        ensures { Comes (moved (put (slice_index_or self.old.env.vars x Val.Null) self.old)) result self.new }
     {
         let v = self.env.vars.copy_at(alloc, x as usize)?;
         self.put(v)
     }
 
-    fn store(&mut self, x: u32) -> Event
-        requires { self.old.place < 2 ^ 63 }
-        ensures { Comes (storing x (configuration self.old)) result self.new }
+    fn store(&mut self, x: u32) -> Result<(), Stop>
+        ensures { Comes (storing x self.old) result self.new }
     {
-        let Some(v) = self.stack.pop() else {
-            return Event::Stuck;
-        };
+        let v = self.pop()?;
         let x = x as usize;
         if x < self.env.vars.as_slice().len() {
             self.env.vars.set(x, v);
         }
-        self.go(1)
+        Ok(())
     }
 
     /// Asks, and waits for this.
-    fn ask(&mut self, ask: HostAsk, wait: Wait) -> Event
-        requires { self.old.place < 2 ^ 63 }
-        ensures { Comes (asking ask wait (configuration self.old)) result self.new }
+    fn ask(&mut self, wait: Wait) -> Result<(), Stop>
+        ensures { Comes (asking wait self.old) result self.new }
     {
-        self.place += 1;
         self.wait = wait;
-        Event::Asked(ask)
+        Err(Stop::Asked)
     }
 
-    fn read(&mut self, alloc: Global, variable: &PvUse) -> Result<Event, NoMemory>
-        requires { self.old.place < 2 ^ 63 }
-        ensures { IfOk result (λ event. Comes (asking (HostAsk.Read variable.now) Wait.Value (configuration self.old)) event self.new) }
+    /// Makes the topmost value its text.
+    fn read_item(&mut self, alloc: Global) -> Result<(), Stop>
+        ensures { Comes (reading_item self.old) result self.new }
     {
-        let variable = variable.copy(alloc)?;
-        Ok(self.ask(HostAsk::Read(variable), Wait::Value))
+        let key = self.pop()?;
+        let key = into_text(alloc, key)?;
+        self.push(Val::Text(key))?;
+        self.ask(Wait::ItemValue)
     }
 
-    fn read_item(&mut self, alloc: Global, way: TableUse, table: u32) -> Result<Event, NoMemory>
-        requires { self.old.place < 2 ^ 63 }
-        ensures { IfOk result (λ event. Comes (reading_under (item_of way table) (configuration self.old)) event self.new) }
+    fn write(&mut self) -> Result<(), Stop>
+        ensures { Comes (writing self.old) result self.new }
     {
-        let Some(key) = self.stack.pop() else {
-            return Ok(Event::Stuck);
-        };
-        let variable = item(alloc, way, table, &key)?;
-        Ok(self.ask(HostAsk::Read(variable), Wait::Value))
+        let v = self.pop()?;
+        self.push(v)?;
+        self.ask(Wait::Written)
     }
 
-    fn write(&mut self, alloc: Global, variable: &PvUse) -> Result<Event, NoMemory>
-        requires { self.old.place < 2 ^ 63 }
-        ensures { IfOk result (λ event. Comes (writing variable.now (configuration self.old)) event self.new) }
+    fn write_item(&mut self, alloc: Global) -> Result<(), Stop>
+        ensures { Comes (writing_item self.old) result self.new }
     {
-        let Some(v) = self.stack.pop() else {
-            return Ok(Event::Stuck);
-        };
-        let variable = variable.copy(alloc)?;
-        Ok(self.ask(HostAsk::Write(variable, v), Wait::Written))
+        let v = self.pop()?;
+        let key = self.pop()?;
+        let key = into_text(alloc, key)?;
+        self.push(Val::Text(key))?;
+        self.push(v)?;
+        self.ask(Wait::ItemWritten)
     }
 
-    fn write_item(&mut self, alloc: Global, way: TableUse, table: u32) -> Result<Event, NoMemory>
-        requires { self.old.place < 2 ^ 63 }
-        ensures { IfOk result (λ event. Comes (writing_under (item_of way table) (configuration self.old)) event self.new) }
+    fn transform(&mut self, alloc: Global, transformation: Transformation) -> Result<(), Stop>
+        ensures { Comes (changing (transformed transformation) self.old) result self.new }
     {
-        let Some(v) = self.stack.pop() else {
-            return Ok(Event::Stuck);
-        };
-        let Some(key) = self.stack.pop() else {
-            return Ok(Event::Stuck);
-        };
-        let variable = item(alloc, way, table, &key)?;
-        Ok(self.ask(HostAsk::Write(variable, v), Wait::Written))
-    }
-
-    fn transform(
-        &mut self,
-        alloc: Global,
-        transformation: Transformation,
-    ) -> Result<Event, NoMemory>
-        requires { self.old.place < 2 ^ 63 }
-        ensures { IfOk result (λ event. Comes (changing (transformed transformation) (configuration self.old)) event self.new) }
-    {
-        let Some(v) = self.stack.pop() else {
-            return Ok(Event::Stuck);
-        };
+        let v = self.pop()?;
         let w = transform(alloc, transformation, &v)?;
         self.put(w)
     }
 
-    fn append(&mut self, alloc: Global) -> Result<Event, NoMemory>
-        requires { self.old.place < 2 ^ 63 }
-        ensures { IfOk result (λ event. Comes (joining text_with (configuration self.old)) event self.new) }
+    fn concat(&mut self, alloc: Global) -> Result<(), Stop>
+        ensures { Comes (joining sum_of self.old) result self.new }
     {
-        let Some(y) = self.stack.pop() else {
-            return Ok(Event::Stuck);
-        };
-        let Some(x) = self.stack.pop() else {
-            return Ok(Event::Stuck);
-        };
-        let v = appended(alloc, &x, &y)?;
+        let back = self.pop()?;
+        let front = self.pop()?;
+        let v = sum(alloc, front, back)?;
         self.put(v)
     }
 
-    fn limit(&mut self, alloc: Global) -> Result<Event, NoMemory>
-        requires { self.old.place < 2 ^ 63 }
-        ensures { IfOk result (λ event. Comes (changing (λ v. limited (text_of v)) (configuration self.old)) event self.new) }
+    fn push_argument(&mut self) -> Result<(), Stop>
+        ensures { Comes (pushing_argument self.old) result self.new }
     {
-        let Some(v) = self.stack.pop() else {
-            return Ok(Event::Stuck);
-        };
-        let w = limit(alloc, &v)?;
-        self.put(w)
-    }
-
-    fn argument(&mut self) -> Result<Event, NoMemory>
-        requires { self.old.place < 2 ^ 63 }
-        ensures { IfOk result (λ event. Comes (adding_argument (configuration self.old)) event self.new) }
-    {
-        let Some(v) = self.stack.pop() else {
-            return Ok(Event::Stuck);
-        };
+        let v = self.pop()?;
         self.arguments.push(v)?;
-        Ok(self.go(1))
+        Ok(())
     }
 
-    fn call(&mut self, alloc: Global, function: &Func) -> Result<Event, NoMemory>
-        requires { self.old.place < 2 ^ 63 }
-        ensures { IfOk result (λ event. Comes (calling (configuration self.old) (HostAsk.Call function.now)) event self.new) }
+    fn binary(&mut self, alloc: Global, op: BinOp) -> Result<(), Stop>
+        ensures { Comes (joining (binary_value op) self.old) result self.new }
     {
-        let function = function.copy(alloc)?;
-        let arguments = mem::replace(&mut self.arguments, Vals::new(alloc));
-        Ok(self.ask(HostAsk::Call(function, arguments), Wait::Code))
-    }
-
-    fn binary(&mut self, alloc: Global, op: BinOp) -> Result<Event, NoMemory>
-        requires { self.old.place < 2 ^ 63 }
-        ensures { IfOk result (λ event. Comes (joining (binary_value op) (configuration self.old)) event self.new) }
-    {
-        let Some(y) = self.stack.pop() else {
-            return Ok(Event::Stuck);
-        };
-        let Some(x) = self.stack.pop() else {
-            return Ok(Event::Stuck);
-        };
-        let v = binary(alloc, op, &x, &y)?;
+        let y = self.pop()?;
+        let x = self.pop()?;
+        let v = binary(alloc, op, x, y)?;
         self.put(v)
     }
 
-    fn negate(&mut self, alloc: Global) -> Result<Event, NoMemory>
-        requires { self.old.place < 2 ^ 63 }
-        ensures { IfOk result (λ event. Comes (changing negated (configuration self.old)) event self.new) }
+    fn negate(&mut self, alloc: Global) -> Result<(), Stop>
+        ensures { Comes (changing negated self.old) result self.new }
     {
-        let Some(v) = self.stack.pop() else {
-            return Ok(Event::Stuck);
-        };
-        let w = negative(alloc, &v)?;
+        let v = self.pop()?;
+        let w = negative(alloc, v)?;
         self.put(w)
     }
 
-    fn not(&mut self) -> Result<Event, NoMemory>
-        requires { self.old.place < 2 ^ 63 }
-        ensures { IfOk result (λ event. Comes (changing (λ v. bit (not (is_true v))) (configuration self.old)) event self.new) }
+    fn not(&mut self) -> Result<(), Stop>
+        ensures { Comes (changing (λ v. bit (not (is_true v))) self.old) result self.new }
     {
-        let Some(v) = self.stack.pop() else {
-            return Ok(Event::Stuck);
-        };
+        let v = self.pop()?;
         self.put(bit_value(!truth(&v)))
     }
 
-    fn truth(&mut self) -> Result<Event, NoMemory>
-        requires { self.old.place < 2 ^ 63 }
-        ensures { IfOk result (λ event. Comes (changing (λ v. bit (is_true v)) (configuration self.old)) event self.new) }
+    fn to_bool(&mut self) -> Result<(), Stop>
+        ensures { Comes (changing (λ v. bit (is_true v)) self.old) result self.new }
     {
-        let Some(v) = self.stack.pop() else {
-            return Ok(Event::Stuck);
-        };
+        let v = self.pop()?;
         self.put(bit_value(truth(&v)))
     }
 
-    fn matches(
-        &mut self,
-        alloc: Global,
-        patterns: &Patterns,
-        number: u32,
-    ) -> Result<Event, NoMemory>
-        requires { self.old.place < 2 ^ 63 }
-        ensures { IfOk result (λ event. Comes (changing (λ v. bit (matched (slice_get patterns.now number) v)) (configuration self.old)) event self.new) }
+    fn matches(&mut self, alloc: Global, number: u32, matchers: &mut Matchers) -> Result<(), Stop>
+        ensures value { Comes (changing (λ v. bit (matched (slice_get matchers.old number) v)) self.old) result self.new }
+        ensures same { matchers.new ≡ matchers.old }
     {
-        let Some(v) = self.stack.pop() else {
-            return Ok(Event::Stuck);
-        };
-        let found = matches(alloc, patterns, number, &v)?;
+        let v = self.pop()?;
+        let found = matches(alloc, matchers, number, &v)?;
         self.put(bit_value(found))
     }
 
-    fn forget(&mut self) -> Event
-        requires { self.old.place < 2 ^ 63 }
-        ensures { Comes (on_top self.old.stack (configuration self.old) (λ v. go 1)) result self.new }
+    fn forget(&mut self) -> Result<(), Stop>
+        ensures { Comes (on_top self.old.stack self.old (λ v. moved)) result self.new }
     {
-        let Some(_) = self.stack.pop() else {
-            return Event::Stuck;
-        };
-        self.go(1)
+        self.pop()?;
+        Ok(())
     }
 
-    /// What an instruction does.
-    fn act(&mut self, alloc: Global, loaded: &Loaded, instr: &Instr) -> Result<Event, NoMemory>
-        requires { self.old.place < 2 ^ 63 }
-        ensures { IfOk result (λ event. Comes (act loaded.now instr.now (configuration self.old)) event self.new) }
+    fn push_copy(&mut self, alloc: Global, v: &Val) -> Result<(), Stop>
+        ensures { Comes (moved (put v.now self.old)) result self.new }
+    {
+        let v = v.copy(alloc)?;
+        self.put(v)
+    }
+
+    /// What an instruction does, where the run's place is behind it.
+    fn act(
+        &mut self,
+        alloc: Global,
+        loaded: &Loaded,
+        instr: &Instr,
+        matchers: &mut Matchers,
+    ) -> Result<(), Stop>
+        requires { self.old.pc < 2 ^ 63 }
+        ensures does { Comes (act (with_patterns matchers.old loaded.now) instr.now self.old) result self.new }
+        ensures same { matchers.new ≡ matchers.old }
     {
         match instr {
-            Instr::Push(v) => {
-                let v = v.copy(alloc)?;
-                self.put(v)
-            }
+            Instr::Push(v) => self.push_copy(alloc, v),
             Instr::Load(x) => self.load(alloc, *x),
-            Instr::LastCode => {
-                let code = self.env.rc;
-                self.put(Val::Int(code))
-            }
-            Instr::Success => {
-                let code = self.env.rc;
-                self.put(bit_value(0 < code))
-            }
-            Instr::Store(x) => Ok(self.store(*x)),
-            Instr::Read(variable) => self.read(alloc, variable),
-            Instr::ReadItem(way, table) => self.read_item(alloc, *way, *table),
-            Instr::Write(variable) => self.write(alloc, variable),
-            Instr::WriteItem(way, table) => self.write_item(alloc, *way, *table),
+            Instr::LoadCode => self.put(Val::Int(self.env.rc)),
+            Instr::LoadSuccess => self.put(bit_value(0 < self.env.rc)),
+            Instr::Store(x) => self.store(*x),
+            Instr::Read(_) => self.ask(Wait::Value),
+            Instr::ReadItem(_, _) => self.read_item(alloc),
+            Instr::Write(_) => self.write(),
+            Instr::WriteItem(_, _) => self.write_item(alloc),
             Instr::Transform(transformation) => self.transform(alloc, *transformation),
-            Instr::Append => self.append(alloc),
-            Instr::Limit => self.limit(alloc),
-            Instr::Argument => self.argument(),
-            Instr::Call(function) => self.call(alloc, function),
-            Instr::Settle => Ok(self.settle()),
-            Instr::Enter(block) => self.enter(loaded.code.entry(*block)),
+            Instr::Concat => self.concat(alloc),
+            Instr::PushArgument => self.push_argument(),
+            Instr::CallFunction(_) => self.ask(Wait::Code),
+            Instr::ExitOnZero => self.exit_on_zero(),
+            Instr::CallBlock(block) => self.call_block(loaded.code.entry(*block)),
             Instr::Binary(op) => self.binary(alloc, *op),
             Instr::Negate => self.negate(alloc),
             Instr::Not => self.not(),
-            Instr::Truth => self.truth(),
-            Instr::Match(number) => self.matches(alloc, &loaded.patterns, *number),
-            Instr::AndThen(n) => self.and_then(*n),
-            Instr::OrElse(n) => self.or_else(*n),
-            Instr::Forget => Ok(self.forget()),
-            Instr::Count => Ok(self.count()),
-            Instr::PassUnless(n) => Ok(self.pass_unless(*n)),
-            Instr::Pass(n) => Ok(self.pass(*n)),
+            Instr::ToBool => self.to_bool(),
+            Instr::Match(number) => self.matches(alloc, *number, matchers),
+            Instr::JumpIfFalseOrPop(n) => self.jump_if_false_or_pop(*n),
+            Instr::JumpIfTrueOrPop(n) => self.jump_if_true_or_pop(*n),
+            Instr::Pop => self.forget(),
+            Instr::CountStatement => self.count_statement(),
+            Instr::JumpIfFalse(n) => self.jump_if_false(*n),
+            Instr::Jump(n) => self.jump(*n),
             Instr::Case(label, n) => self.case(label, *n),
-            Instr::Begin(n) => self.begin_loop(loaded.parameters.max_while_loops, *n),
-            Instr::Round => self.round(),
-            Instr::Again => self.again(),
-            Instr::Finish => self.finish(),
+            Instr::BeginLoop(n) => self.begin_loop(loaded.parameters.max_while_loops, *n),
+            Instr::BeginRound => self.begin_round(),
+            Instr::LoopBack => self.loop_back(),
+            Instr::EndLoop => self.end_loop(),
             Instr::Break => self.count_and_break(),
-            Instr::Return => Ok(self.return_top()),
-            Instr::Exit => Ok(Event::Over(How::Exit)),
-            Instr::Drop => Ok(Event::Over(How::Drop)),
-            Instr::EndBlock => Ok(self.leave(1, How::Normal)),
+            Instr::Return => self.return_top(),
+            Instr::Exit => self.over(How::Exit),
+            Instr::Drop => self.over(How::Drop),
+            Instr::EndBlock => self.leave(1, How::Normal),
         }
     }
 
     /// One instruction, whichever stands at the run's place.
-    pub(crate) fn step(&mut self, alloc: Global, loaded: &Loaded) -> Result<Event, NoMemory>
-        ensures step { IfOk result (λ event. Comes (step_of loaded.now (configuration self.old)) event self.new) }
-        ensures depth { self.old.deeper < 2 ^ 32 }
+    pub(crate) fn step(
+        &mut self,
+        alloc: Global,
+        loaded: &Loaded,
+        matchers: &mut Matchers,
+    ) -> Result<(), Stop>
+        ensures step { Comes (step_of (with_patterns matchers.old loaded.now) self.old) result self.new }
+        ensures depth { self.old.calls_left < 2 ^ 32 }
+        ensures same { matchers.new ≡ matchers.old }
     {
-        let _deeper = self.deeper;
+        let _calls_left = self.calls_left;
         let instrs = loaded.code.instrs();
-        if self.place >= instrs.len() {
-            return Ok(Event::Stuck);
+        let pc = self.pc;
+        if pc >= instrs.len() {
+            return Err(Stop::Stuck);
         }
-        self.act(alloc, loaded, &instrs[self.place])
+        self.pc = pc + 1;
+        self.act(alloc, loaded, &instrs[pc], matchers)
     }
 }

@@ -1,14 +1,14 @@
 // Runs of scripts, from their trees to how they end, worked out by hand.
 
 use super::{
-    call, compared, compiled, counts_to, not, number, one, rest_of_seven, script, set,
-    sum_past_the_end, two, var, when,
+    call, compared, compiled, counts_to, host, not, number, one, rest_of_seven, script, set,
+    sum_past_the_end, text, two, var, when,
 };
 use crate::compile;
 use cfg_code::Loaded;
-use cfg_tree::{Expr, Stmt};
-use pv_values::{BinOp, Env, Func, HostAnswer, HostAsk, How, PvUse, Val, Vals};
-use script_vm::{Played, play};
+use cfg_tree::{Expr, Part, Stmt, TableUse, Target};
+use pv_values::{BinOp, Env, Func, HostAnswer, HostAsk, How, PvUse, Text, Val, Vals};
+use script_vm::{AskView, Played, Run, VariableView, Went, play};
 use sqlite_items::Items;
 use std::alloc::{AllocError, Global};
 use std::test::Fail;
@@ -168,5 +168,132 @@ fn a_call_is_true_above_0(rt: HostRuntime) -> Result<(), Fail> {
     assert!(rt; ended(less, How::Normal, 1, 5));
     let none = played_with(alloc, &loaded, HostAnswer::Code(0))?;
     assert!(rt; ended(none, How::Exit, 1, 0));
+    Ok(())
+}
+
+/// `$var(a) = $ru;`, answered by a text of so many bytes, which `$var(a)` has then, or `$null`.
+fn read_length(alloc: Global, length: usize) -> Result<Option<usize>, AllocError> {
+    let block = one(alloc, set(0, host(PvUse::RequestUri)))?;
+    let loaded = compiled(alloc, block)?;
+    let answer = Val::Text(Text::of(vec![in alloc; b'x'; length]?));
+    match played_with(alloc, &loaded, HostAnswer::Value(answer))? {
+        Played::Ended(env, How::Normal, 1) => match env.vars.as_slice() {
+            [Val::Text(text)] => Ok(Some(text.bytes().len())),
+            [Val::Null] => Ok(None),
+            _ => Ok(Some(0)),
+        },
+        _ => Ok(Some(0)),
+    }
+}
+
+#[test]
+fn a_value_above_8192_bytes_is_read_as_null(rt: HostRuntime) -> Result<(), Fail> {
+    let alloc = rt.alloc();
+    assert_eq!(rt; read_length(alloc, 8192)?, Some(8192));
+    assert_eq!(rt; read_length(alloc, 8193)?, None);
+    Ok(())
+}
+
+/// `sl_send_reply("200", "$var(a)$var(a)");` behind `$var(a) = $ru;`, answered by a text of so many
+/// bytes: the length of the reason.
+fn reason_length(alloc: Global, length: usize) -> Result<Option<usize>, AllocError> {
+    let mut block = one(alloc, set(0, host(PvUse::RequestUri)))?;
+    let parts = two(alloc, Part::Var(0), Part::Var(0))?;
+    let reason = one(alloc, parts)?;
+    block.push(Stmt::Do(Expr::Call(Func::SlSendReply(200), reason)))?;
+    let loaded = compiled(alloc, block)?;
+    let answer = Val::Text(Text::of(vec![in alloc; b'x'; length]?));
+    match played_with(alloc, &loaded, HostAnswer::Value(answer))? {
+        Played::Needs(HostAsk::Call(Func::SlSendReply(200), values)) => match values.as_slice() {
+            [Val::Text(text)] => Ok(Some(text.bytes().len())),
+            [Val::Null] => Ok(None),
+            _ => Ok(Some(0)),
+        },
+        _ => Ok(Some(0)),
+    }
+}
+
+#[test]
+fn an_expanded_text_above_8192_bytes_is_null(rt: HostRuntime) -> Result<(), Fail> {
+    let alloc = rt.alloc();
+    assert_eq!(rt; reason_length(alloc, 0)?, Some(0));
+    assert_eq!(rt; reason_length(alloc, 4096)?, Some(8192));
+    assert_eq!(rt; reason_length(alloc, 4097)?, None);
+    Ok(())
+}
+
+/// One variable that is 0.
+fn start(alloc: Global) -> Result<Env, AllocError> {
+    let mut vars = Vals::new(alloc);
+    vars.push(Val::Int(0))?;
+    Ok(Env { vars, rc: 0 })
+}
+
+/// The run asks for `t_relay()`, and ends with this variable where it is answered so.
+fn relays(
+    alloc: Global,
+    run: &mut Run,
+    loaded: &Loaded,
+    code: i64,
+    wanted: i64,
+) -> Result<bool, AllocError> {
+    let mut matchers = loaded.patterns.matchers(alloc)?;
+    let asks = run.advance(alloc, loaded, HostAnswer::Start, &mut matchers);
+    let is_relay = matches!(run.asked(loaded), AskView::Call(Func::TRelay, []));
+    let ends = run.advance(alloc, loaded, HostAnswer::Code(code), &mut matchers);
+    let again = run.advance(alloc, loaded, HostAnswer::Start, &mut matchers);
+    let (env, how) = run.close(alloc);
+    Ok(
+        asks == Went::Asks
+            && is_relay
+            && ends == Went::Ended
+            && again == Went::Ended
+            && how == How::Normal
+            && matches!(env.vars.as_slice(), [Val::Int(n)] if *n == wanted),
+    )
+}
+
+#[test]
+fn a_run_is_used_again(rt: HostRuntime) -> Result<(), Fail> {
+    let alloc = rt.alloc();
+    let loaded = compiled(alloc, relays_or_not(alloc)?)?;
+    let mut run = Run::begin(alloc, &loaded, 0, start(alloc)?)?;
+    assert!(rt; relays(alloc, &mut run, &loaded, 1, 0)?);
+    run.restart(&loaded, 0, start(alloc)?);
+    assert!(rt; relays(alloc, &mut run, &loaded, -2, 5)?);
+    Ok(())
+}
+
+/// `$sht(t=>k$rc) = $sht(t=>k$rc);`
+fn item_copied(alloc: Global) -> Result<Items<Stmt>, AllocError> {
+    let from = two(alloc, text(alloc, "k")?, Part::Code)?;
+    let to = two(alloc, text(alloc, "k")?, Part::Code)?;
+    let target = Target::Item(TableUse::Item, 3, to);
+    let value = Expr::Read(Part::Item(TableUse::Seconds, 4, from));
+    one(alloc, Stmt::Set(target, value))
+}
+
+#[test]
+fn an_item_is_asked_under_its_key(rt: HostRuntime) -> Result<(), Fail> {
+    let alloc = rt.alloc();
+    let loaded = compiled(alloc, item_copied(alloc)?)?;
+    let mut matchers = loaded.patterns.matchers(alloc)?;
+    let mut run = Run::begin(alloc, &loaded, 0, start(alloc)?)?;
+    assert!(rt; run.advance(alloc, &loaded, HostAnswer::Start, &mut matchers) == Went::Asks);
+    assert!(rt;
+        matches!(
+            run.asked(&loaded),
+            AskView::Read(VariableView::Item(TableUse::Seconds, 4, b"k0"))
+        )
+    );
+    let answer = HostAnswer::Value(Val::Int(7));
+    assert!(rt; run.advance(alloc, &loaded, answer, &mut matchers) == Went::Asks);
+    assert!(rt;
+        matches!(
+            run.asked(&loaded),
+            AskView::Write(VariableView::Item(TableUse::Item, 3, b"k0"), Val::Int(7))
+        )
+    );
+    assert!(rt; run.advance(alloc, &loaded, HostAnswer::Written, &mut matchers) == Went::Ended);
     Ok(())
 }

@@ -1,11 +1,11 @@
-use Rattle.std.proofs.Common.{◌<◌, ◌∙◌, ap, subst}
-use Rattle.script_vm.specs.Running.{configuration, OnAsks}
-use Rattle.script_vm.specs.Measure.{work_left}
-use Rattle.script_vm.proofs.Measure.{told_leaves}
+use Rattle.std.proofs.Common.{◌∙◌}
+use Rattle.script_vm.proofs.Goes.{asks_as, ended_as}
 use Rattle.script_vm.proofs.run.Run.feed.Goals as goal
 
-pub returns-in-Ok-clause-less : goal.returns-in-Ok-clause-less
-returns-in-Ok-clause-less c =
-    let loaded = c.args.loaded.now in
-    let same = ap (work_left loaded) c.in-Ok.ensures ∙ told_leaves loaded c.args.answer c.args.self.wait (configuration c.args.self) in
-    subst (λ n. OnAsks c.run_on.result (λ run. work_left loaded (configuration run) < n)) same c.run_on.ensures.less
+pub returns-in-Ok-copied-clause-next : goal.returns-in-Ok-copied-clause-next
+returns-in-Ok-copied-clause-next c = λ next waits.
+    asks_as c.args.loaded.now (next c.args.answer) c.advance.new.self c.in-Ok-copied.ask (c.in-Asks.ensures.next c.in-Ok.ensures next waits) (c.in-Ok-copied.ensures ∙ c.asked.ensures)
+
+pub returns-in-Ended-clause-next : goal.returns-in-Ended-clause-next
+returns-in-Ended-clause-next c = λ next waits.
+    ended_as c.args.loaded.now (next c.args.answer) c.advance.new.self _ _ (c.in-Ended.ensures.next c.in-Ok.ensures next waits) c.close-env.ensures.end.0 c.close-env.ensures.end.1
