@@ -1,5 +1,5 @@
 -- Texts that are expanded, and variables with a transformation.
-use Rattle.std.proofs.Common.{◌≡◌, ◌≢◌, ℕ, zero, suc, ◌-◌, List, [], ◌∷◌, map, Option, Some, None, Result, Ok, Err, refl, sym, ap, ◌∙◌, subst, arith}
+use Rattle.std.proofs.Common.{◌≡◌, ℕ, zero, suc, List, [], ◌∷◌, map, Option, Some, None, Result, Ok, Err, refl, sym, ap, ◌∙◌, subst}
 use Rattle.std.specs.Prelude.{option_map, IfOk}
 use Rattle.pv_values.specs.declared.refusal.Place.{Place}
 use Rattle.pv_values.specs.declared.variable.Transformation.{Transformation}
@@ -11,7 +11,6 @@ use Rattle.cfg_tree.specs.Variables.{pieces_of}
 use Rattle.cfg_tree.specs.Names.{Known, Layer, expansion_within, untransformed, layer_by, transformed_layer, named, transformation_names}
 use Rattle.cfg_tree.specs.Refusals.{Checked, accepted, refused, one, both, each, join, from_some}
 use Rattle.cfg_lex.specs.declared.piece.Piece.{Piece}
-use Rattle.cfg_lex.specs.declared.piece.Piece.TheVariants.{Of}
 use Rattle.cfg_lex.specs.Pieces.{as_piece}
 use Rattle.cfg_check.specs.Following.{State, Follows}
 use Rattle.cfg_check.specs.Layers.{piece_within}
@@ -46,14 +45,6 @@ by_pieces depth known at text ps a b v are h =
     let same : each (map (piece_check depth known at) ps) ≡ expansion_within depth known at text =
     ap each (sym (map_pieces (piece_within depth known at) ps)) ∙ sym (pieces_within depth known at text ∙ rw (← are) refl) in
     subst (λ m. Follows m a v b) same h
-
--- a variable where none may be opened any more, and where one may
-pub closed_piece : (depth : ℕ) (known : Known) (at : Place) (p : Piece) (v : Variable) → p ≡ Of v → depth ≡ 0 → refused 9 at ≡ piece_within depth known at (as_piece p)
-closed_piece depth known at p v is closed = rw (is, closed) refl
-
-pub open_piece : (depth : ℕ) (known : Known) (at : Place) (p : Piece) (v : Variable) → p ≡ Of v → depth ≢ 0 →
-    one roll-Part (layer_by known (expansion_within (depth - 1) known at) at v) ≡ piece_within depth known at (as_piece p)
-open_piece depth known at p v is some = let deeper : depth ≡ suc (depth - 1) = omega arith in rw (is, deeper) refl
 
 -- ---- transformations
 

@@ -1,5 +1,5 @@
 -- A variable that is read without a refusal is there.
-use Rattle.std.proofs.Common.{ℕ, zero, suc, List, [], ◌∷◌, ◌++◌, length, Option, Some, None}
+use Rattle.std.proofs.Common.{ℕ, zero, suc, ◌-◌, List, [], ◌∷◌, ◌++◌, length, Option, Some, None}
 use Rattle.std.specs.Prelude.{position, codes}
 use Rattle.std.specs.Str.{bytes_eq}
 use Rattle.pv_values.specs.declared.refusal.Place.{Place}

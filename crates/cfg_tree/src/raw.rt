@@ -61,7 +61,7 @@ pub struct RawBlock {
 }
 
 /// `route[NAME]`, or a block from which a run begins.
-#[derive(Clone, Copy, Debug, PartialEq, Eq, Hash)]
+#[derive(Clone, Copy, Debug, PartialEq, Eq)]
 pub enum RouteKind {
     Route,
     Begins(BlockKind),

@@ -1,7 +1,7 @@
 // Kinds of blocks.
 
 /// The kinds of blocks from which a run begins. `route[NAME]` runs from a block of one of them.
-#[derive(Clone, Copy, Debug, PartialEq, Eq, Hash)]
+#[derive(Clone, Copy, Debug, PartialEq, Eq)]
 pub enum BlockKind {
     /// `request_route`: a request came.
     Request,

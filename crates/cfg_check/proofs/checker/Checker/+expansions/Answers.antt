@@ -12,7 +12,7 @@ use Rattle.cfg_check.proofs.checker.Checker.+expansions.Goals as goal
 pub expansion_within-returns-in_default : goal.expansion_within-returns-in_default
 expansion_within-returns-in_default t c =
     let none = subst (λ o. option_map (λ v. map as_piece v.items) o ≡ pieces_of c.args.text.now) c.in_default.is c.in_ok-pieces.ensures in
-    answered c.refuse-in_default.result _ _ _ _ (no_pieces c.args.depth c.args.known.now c.args.at c.args.text.now none) c.refuse-in_default.ensures
+    answered c.refuse.result _ _ _ _ (no_pieces c.args.depth c.args.known.now c.args.at c.args.text.now none) c.refuse.ensures
 
 pub expansion_within-loop-piece-preserved : goal.expansion_within-loop-piece-preserved
 expansion_within-loop-piece-preserved t c =
