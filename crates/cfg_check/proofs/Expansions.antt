@@ -1,5 +1,5 @@
 -- Texts that are expanded, and variables with a transformation.
-use Rattle.std.proofs.Common.{◌≡◌, ◌≢◌, ℕ, suc, ◌-◌, List, [], ◌∷◌, map, Option, Some, None, Result, Ok, Err, refl, sym, ap, ◌∙◌, subst, arith}
+use Rattle.std.proofs.Common.{◌≡◌, ℕ, zero, suc, List, [], ◌∷◌, map, Option, Some, None, Result, Ok, Err, refl, sym, ap, ◌∙◌, subst}
 use Rattle.std.specs.Prelude.{option_map, IfOk}
 use Rattle.pv_values.specs.declared.refusal.Place.{Place}
 use Rattle.pv_values.specs.declared.variable.Transformation.{Transformation}
@@ -8,41 +8,43 @@ use Rattle.cfg_tree.specs.declared.script.Part.{Part}
 use Rattle.cfg_tree.specs.declared.script.Part.TheOpen.{Part-F}
 use Rattle.cfg_tree.specs.declared.script.Part.TheViews.{roll-Part}
 use Rattle.cfg_tree.specs.Variables.{pieces_of}
-use Rattle.cfg_tree.specs.Names.{Known, Layer, piece_part, expansion_within, untransformed, layer_by, transformed_layer, named, transformation_names}
+use Rattle.cfg_tree.specs.Names.{Known, Layer, expansion_within, untransformed, layer_by, transformed_layer, named, transformation_names}
 use Rattle.cfg_tree.specs.Refusals.{Checked, accepted, refused, one, both, each, join, from_some}
 use Rattle.cfg_lex.specs.declared.piece.Piece.{Piece}
 use Rattle.cfg_lex.specs.Pieces.{as_piece}
 use Rattle.cfg_check.specs.Following.{State, Follows}
+use Rattle.cfg_check.specs.Layers.{piece_within}
 use Rattle.cfg_check.proofs.Follows.{follows_both}
 
 -- an answer that follows a check follows one that is the same
 pub answered : {A E : Type 0} (r : Result (Option A) E) (m n : Checked A) (a b : State) → m ≡ n → IfOk r (λ v. Follows m a v b) → IfOk r (λ v. Follows n a v b)
 answered r m n a b e h = subst (λ k. IfOk r (λ v. Follows k a v b)) e h
 
--- nothing is expanded so deep
-pub too_deep : (depth : ℕ) (known : Known) (at : Place) (text : List ℕ) → depth ≡ 0 → refused 9 at ≡ expansion_within depth known at text
+-- a text by its pieces, where so many variables may still be opened
+pieces_within : (depth : ℕ) (known : Known) (at : Place) (text : List ℕ) →
+    expansion_within depth known at text ≡ from_some (pieces_of text) 9 at (λ ps. each (map (piece_within depth known at) ps))
 unfolding expansion_within
-too_deep depth known at text zero = rw zero refl
+pieces_within zero known at text = refl
+pieces_within (suc depth) known at text = refl
 
 -- a `$` stands in it that begins no variable
-pub no_pieces : (depth : ℕ) (known : Known) (at : Place) (text : List ℕ) → depth ≢ 0 → None ≡ pieces_of text → refused 9 at ≡ expansion_within depth known at text
-unfolding expansion_within
-no_pieces depth known at text some none = let deeper : depth ≡ suc (depth - 1) = omega arith in rw (deeper, ← none) refl
+pub no_pieces : (depth : ℕ) (known : Known) (at : Place) (text : List ℕ) → None ≡ pieces_of text → refused 9 at ≡ expansion_within depth known at text
+no_pieces depth known at text none = sym (pieces_within depth known at text ∙ rw (← none) refl)
 
 -- each piece, as it was read
 abbrev pub piece_check : ℕ → Known → Place → Piece → Checked Part
-piece_check depth known at p = piece_part known (expansion_within depth known at) at (as_piece p)
+piece_check depth known at p = piece_within depth known at (as_piece p)
 
 map_pieces : (f : _ → Checked Part) (ps : List Piece) → map f (map as_piece ps) ≡ map (λ p. f (as_piece p)) ps
 map_pieces f [] = refl
 map_pieces f (p ∷ ps) = ap (λ ms. f (as_piece p) ∷ ms) (map_pieces f ps)
 
-pub by_pieces : (depth : ℕ) (known : Known) (at : Place) (text : List ℕ) (ps : List Piece) (a b : State) (v : Option (List Part)) → depth ≢ 0 → Some (map as_piece ps) ≡ pieces_of text →
-    Follows (each (map (piece_check (depth - 1) known at) ps)) a v b → Follows (expansion_within depth known at text) a v b
-unfolding expansion_within
-by_pieces depth known at text ps a b v some are h =
-    let deeper : depth ≡ suc (depth - 1) = omega arith in
-    rw (deeper, ← are) (subst (λ ms. Follows (each ms) a v b) (sym (map_pieces (piece_part known (expansion_within (depth - 1) known at) at) ps)) h)
+pub by_pieces : (depth : ℕ) (known : Known) (at : Place) (text : List ℕ) (ps : List Piece) (a b : State) (v : Option (List Part)) → Some (map as_piece ps) ≡ pieces_of text →
+    Follows (each (map (piece_check depth known at) ps)) a v b → Follows (expansion_within depth known at text) a v b
+by_pieces depth known at text ps a b v are h =
+    let same : each (map (piece_check depth known at) ps) ≡ expansion_within depth known at text =
+    ap each (sym (map_pieces (piece_within depth known at) ps)) ∙ sym (pieces_within depth known at text ∙ rw (← are) refl) in
+    subst (λ m. Follows m a v b) same h
 
 -- ---- transformations
 

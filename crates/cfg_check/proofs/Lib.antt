@@ -10,6 +10,8 @@ pub mod ValuedFunctions
 pub mod ValuedTrees
 pub mod ValuedScripts
 mod Firsts
+mod Heads
+mod HeadTests
 mod Blocks
 pub mod Trees
 pub mod Targets

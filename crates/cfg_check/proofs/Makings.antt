@@ -15,24 +15,24 @@ without_request raw None = refl
 without_request raw (Some bodies) = refl
 
 -- the script of a tree whose blocks and request_route were read
-pub script_made : (raw : RawScript) (read : Read) (blocks : List (List Stmt)) (request : ℕ) (tables : List TableSpec) (parameters : Parameters) → IsRead raw read →
-    read.blocks ≡ Some blocks → read.request ≡ Some request → parameters ≡ parameters_of read.settings → tables ≡ map (λ t. t.1) read.settings.tables →
+pub script_made : (raw : RawScript) (read : Read) (blocks : List (List Stmt)) (request : ℕ) (tables : List TableSpec) (parameters : Parameters) (patterns : List (List ℕ)) → IsRead raw read →
+    read.blocks ≡ Some blocks → read.request ≡ Some request → parameters ≡ parameters_of read.settings → tables ≡ map (λ t. t.1) read.settings.tables → patterns ≡ read.patterns.items →
     Some (record {
       blocks = blocks;
       request = request;
       reply = read.reply;
       vars = read.vars;
-      patterns = read.patterns;
+      patterns = patterns;
       tables = tables;
       parameters = parameters;
     }) ≡ script_of raw
 unfolding script_of
-script_made raw read blocks request tables parameters h some_blocks some_request are told =
+script_made raw read blocks request tables parameters patterns h some_blocks some_request are told texts =
     let bodies : (bodies_of raw).value ≡ Some blocks = sym h.blocks_are ∙ some_blocks in
     let number : unnamed Request raw ≡ Some request = sym h.request_is ∙ some_request in
     let all = are ∙ ap parameters_of h.settings_are in
     let specs = told ∙ ap (λ (s : Settings). map (λ t. t.1) s.tables) h.settings_are in
-    rw (bodies, number, all, specs, h.reply_is, h.vars_are, h.patterns_are) refl
+    rw (bodies, number, all, specs, texts, h.reply_is, h.vars_are, h.patterns_are) refl
 
 -- without the blocks, and without request_route, there is none
 pub no_blocks_read : (raw : RawScript) (read : Read) → IsRead raw read → read.blocks ≡ None → None ≡ script_of raw

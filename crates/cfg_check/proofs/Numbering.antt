@@ -1,6 +1,6 @@
 -- Names are numbered by their places.
-use Rattle.std.proofs.Common.{◌≡◌, ℕ, ◌+◌, ◌<◌, Bool, true, false, not, cond, if◌then◌else◌, List, [], ◌∷◌, ◌++◌, map, length, Some, None, refl, sym, ap, ◌∙◌, arith, append-nil}
-use Rattle.std.specs.Prelude.{nat_lt}
+use Rattle.std.proofs.Common.{◌≡◌, ℕ, ◌+◌, ◌<◌, Bool, true, false, not, cond, if◌then◌else◌, List, [], ◌∷◌, ◌++◌, map, length, Some, None, is_some, refl, sym, ap, ◌∙◌, arith, append-nil}
+use Rattle.std.specs.Prelude.{nat_lt, position}
 use Rattle.std.specs.List.{list_any, position_or_len}
 use Rattle.std.specs.Str.{bytes_eq}
 use Rattle.std.proofs.lemmas.Bool.Decides.{nat_tests}
@@ -22,6 +22,14 @@ any_map f name (x ∷ xs) = grind (arith, any_map f name xs)
 any_is_within : {X : Type 0} (p : X → Bool) (xs : List X) → list_any p xs ≡ nat_lt (position_or_len p xs) (length xs)
 any_is_within p [] = refl
 any_is_within p (x ∷ xs) = grind (arith, any_is_within p xs)
+
+some_if : (b : Bool) (n : ℕ) → b ≡ is_some (if b then Some n else None)
+some_if true n = refl
+some_if false n = refl
+
+-- one passes: it has a place
+pub any_found : {X : Type 0} (p : X → Bool) (xs : List X) → list_any p xs ≡ is_some (position p xs)
+any_found p xs = any_is_within p xs ∙ some_if (nat_lt (position_or_len p xs) (length xs)) (position_or_len p xs)
 
 -- none passes: the place is behind the last
 last_place : {X : Type 0} (p : X → Bool) (xs : List X) → nat_lt (position_or_len p xs) (length xs) ≡ false → position_or_len p xs ≡ length xs

@@ -61,7 +61,7 @@ pub is_read : (raw : RawScript) (items : List RawItem) (read : Read) (known : Kn
     read.request ≡ position (is_same_block (Begins Request, None)) known.blocks →
     new.seen ≡ now.seen → new.refusals ≡ now.refusals ++ no_request raw read.request →
     read.reply ≡ position (is_same_block (Begins Reply, None)) known.blocks →
-    read.refusals ≡ new.refusals → read.vars ≡ length new.seen.vars → read.patterns ≡ new.seen.patterns → IsRead raw read
+    read.refusals ≡ new.refusals → read.vars ≡ length new.seen.vars → read.patterns.items ≡ new.seen.patterns → IsRead raw read
 is_read raw items read known blocks tables begun first second old now new same nothing set set_refused named named_refused told known_is old_is bodies request seen last reply all vars patterns =
     let settings = set ∙ ap settings_of same in
     let is = same_known raw items read.settings known blocks tables same settings named told known_is in

@@ -1,5 +1,5 @@
 -- A variable that is read without a refusal is there.
-use Rattle.std.proofs.Common.{ℕ, zero, suc, List, [], ◌∷◌, ◌++◌, length, Option, Some, None}
+use Rattle.std.proofs.Common.{ℕ, zero, suc, ◌-◌, List, [], ◌∷◌, ◌++◌, length, Option, Some, None}
 use Rattle.std.specs.Prelude.{position, codes}
 use Rattle.std.specs.Str.{bytes_eq}
 use Rattle.pv_values.specs.declared.refusal.Place.{Place}
@@ -11,7 +11,7 @@ use Rattle.cfg_tree.specs.declared.script.Part.{Part}
 use Rattle.cfg_tree.specs.declared.script.Part.TheOpen.{Part-F}
 use Rattle.cfg_tree.specs.declared.script.Part.TheViews.{roll-Part}
 use Rattle.cfg_tree.specs.Variables.{Piece, Plain, Of, pieces_of}
-use Rattle.cfg_tree.specs.Names.{Known, named, host_names, table_names, suspension_names, transformation_names, var_number, some_text, avp_name, table_and_key, Layer, host_layer, item_layer, bare_layer, inner_layer, untransformed, transformed_layer, layer_by, piece_part, expansion_within, expansion, inner_length, layer_of, part_of}
+use Rattle.cfg_tree.specs.Names.{Known, named, host_names, table_names, suspension_names, transformation_names, var_number, some_text, avp_name, table_and_key, Layer, host_layer, item_layer, bare_layer, inner_layer, untransformed, transformed_layer, layer_by, piece_part, plain_part, expansion_within, max_nested, expansion, layer_of, part_of}
 use Rattle.cfg_tree.specs.Refusals.{Seen, Outcome, Checked, accepted, from_some}
 use Rattle.cfg_check.proofs.Valued.{Stands, Valued, accepted_stands, accepted_valued, refused_valued, one_valued, both_valued, map_valued, from_some_valued, if_valued}
 
@@ -70,18 +70,22 @@ piece_valued : (known : Known) (expand : List ℕ → Checked (List Part)) → E
 piece_valued known expand ex at (Plain t) = accepted_valued (roll-Part (Part-F.Text t))
 piece_valued known expand ex at (Of v) = one_valued roll-Part (layer_by known expand at v) (layer_by_valued known expand ex at v)
 
+plain_valued : (at : Place) (p : Piece) → Valued (plain_part at p)
+plain_valued at (Plain t) = accepted_valued (roll-Part (Part-F.Text t))
+plain_valued at (Of v) = refused_valued 9 at
+
 expansion_within_valued : (depth : ℕ) (known : Known) (at : Place) (text : List ℕ) → Valued (expansion_within depth known at text)
 unfolding expansion_within
-expansion_within_valued zero known at text = refused_valued 9 at
+expansion_within_valued zero known at text = from_some_valued (pieces_of text) 9 at _ (λ pieces. map_valued (plain_part at) (plain_valued at) pieces)
 expansion_within_valued (suc depth) known at text = from_some_valued (pieces_of text) 9 at _ (λ pieces.
     map_valued (piece_part known (expansion_within depth known at) at)
     (piece_valued known (expansion_within depth known at) (expansion_within_valued depth known at) at) pieces)
 
 pub expansion_valued : (known : Known) (at : Place) (text : List ℕ) → Valued (expansion known at text)
-expansion_valued known at text = expansion_within_valued (suc (length text)) known at text
+expansion_valued known at text = expansion_within_valued max_nested known at text
 
 pub layer_of_valued : (known : Known) (at : Place) (v : Variable) → Valued (layer_of known at v)
-layer_of_valued known at v = layer_by_valued known (expansion_within (suc (inner_length v.inner)) known at) (expansion_within_valued (suc (inner_length v.inner)) known at) at v
+layer_of_valued known at v = layer_by_valued known (expansion_within (max_nested - 1) known at) (expansion_within_valued (max_nested - 1) known at) at v
 
 pub part_of_valued : (known : Known) (at : Place) (v : Variable) → Valued (part_of known at v)
 part_of_valued known at v = one_valued roll-Part (layer_of known at v) (layer_of_valued known at v)

@@ -3,6 +3,7 @@ pub mod Names
 pub mod Following
 pub mod Lookups
 pub mod Layers
+pub mod Heads
 pub mod Calls
 pub mod Reading
 pub mod Cases

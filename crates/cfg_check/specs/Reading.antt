@@ -16,7 +16,7 @@ pub record IsRead (raw : RawScript) (read : Read) : Type 0 where
   pub request_is : read.request ≡ unnamed Request raw
   pub reply_is : read.reply ≡ unnamed Reply raw
   pub vars_are : read.vars ≡ length (bodies_of raw).seen.vars
-  pub patterns_are : read.patterns ≡ (bodies_of raw).seen.patterns
+  pub patterns_are : read.patterns.items ≡ (bodies_of raw).seen.patterns
 
 -- the tree is accepted as this script, or this is its first refusal
 abbrev pub IsJudged : RawScript → Result Script Refusal → Type 0

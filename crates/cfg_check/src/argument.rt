@@ -81,7 +81,7 @@ impl Checker {
     ) -> Result<Option<u32>, NoMemory>
         ensures { IfOk result (λ v. Follows (functions.block_number known.now kind word.now) self.old v self.new) }
     {
-        match known.block(kind, word.text.bytes()) {
+        match known.block(self.alloc(), kind, word.text.bytes())? {
             Some(place) => Ok(Some(number(place)?)),
             None => self.refuse(Kind::UnknownRoute, word.at),
         }

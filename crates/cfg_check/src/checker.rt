@@ -1,6 +1,6 @@
 // What is kept while a script is checked.
 
-ghost use Rattle.std.specs.Prelude.{◌≡◌, ◌<◌, ◌^◌, ◌++◌, ◌∷◌, [], length, Some, IfOk, OnOk};
+ghost use Rattle.std.specs.Prelude.{◌≡◌, ◌≤◌, ◌+◌, ◌^◌, ◌++◌, ◌∷◌, [], length, IfOk, OnOk, OnErr};
 ghost use Rattle.cfg_tree.specs.Checks as checks;
 ghost use Rattle.cfg_tree.specs.Names as names;
 ghost use Rattle.cfg_tree.specs.Functions as functions;
@@ -10,7 +10,7 @@ ghost use Rattle.cfg_check.specs.Following.{State, Follows, Counts};
 
 use crate::vars::Names;
 use cfg_settings::{Kind, Refusal};
-use pv_values::{Pattern, PatternFault, Patterns, Place};
+use pv_values::{PatternText, Place};
 use sqlite_items::Items;
 use std::alloc::{AllocError as NoMemory, Global};
 use std::marker::Model;
@@ -27,7 +27,7 @@ pub struct Checker {
     alloc: Global,
     refusals: Items<Refusal>,
     statements: usize,
-    patterns: Vec<Pattern>,
+    patterns: Vec<PatternText>,
     vars: Names,
 }
 
@@ -42,11 +42,20 @@ impl Model for Checker {
     } };
 }
 
-/// The number of something by its place.
+/// The number of something by its place, which a place from 2^32 on hasn't.
 pub fn number(place: usize) -> Result<u32, NoMemory>
-    ensures { IfOk result (λ n. n ≡ place) }
+    ensures number { IfOk result (λ n. n ≡ place) }
+    ensures beyond { OnErr result (2 ^ 32 ≤ place) }
 {
     u32::try_from(place).map_err(|_| NoMemory)
+}
+
+/// One more than so many, which the greatest number has not.
+fn one_more(count: usize) -> Result<usize, NoMemory>
+    ensures more { IfOk result (λ n. n ≡ count + 1) }
+    ensures greatest { OnErr result (count ≡ usize.MAX) }
+{
+    count.checked_add(1).ok_or(NoMemory)
 }
 
 impl Checker {
@@ -63,14 +72,14 @@ impl Checker {
         }
     }
 
-    /// The refusals, the number of names of `$var`, and the patterns.
-    pub fn into_parts(self) -> Result<(Items<Refusal>, u32, Patterns), NoMemory>
+    /// The refusals, the number of names of `$var`, and the patterns' texts.
+    pub fn into_parts(self) -> Result<(Items<Refusal>, u32, Vec<PatternText>), NoMemory>
         ensures refusals { IfOk result (λ parts. parts.0 ≡ self.refusals) }
         ensures vars { IfOk result (λ parts. parts.1 ≡ length self.seen.vars) }
-        ensures patterns { IfOk result (λ parts. parts.2 ≡ self.seen.patterns) }
+        ensures patterns { IfOk result (λ parts. parts.2.items ≡ self.seen.patterns) }
     {
         let vars = number(self.vars.len())?;
-        Ok((self.refusals, vars, Patterns::of(self.patterns)))
+        Ok((self.refusals, vars, self.patterns))
     }
 
     pub fn alloc(&self) -> Global {
@@ -105,16 +114,15 @@ impl Checker {
     pub fn pattern_number(&mut self, at: Place, source: &[u8]) -> Result<Option<u32>, NoMemory>
         ensures { IfOk result (λ v. Follows (functions.pattern_number at source.now) self.old v self.new) }
     {
-        match Pattern::new(self.alloc, source) {
-            Err(PatternFault::NotAPattern) => self.refuse(Kind::BadPattern, at),
-            Err(PatternFault::NoMemory) => Err(NoMemory),
-            Ok(_) if self.patterns.len() >= PATTERNS => self.refuse(Kind::TooLarge, at),
-            Ok(pattern) => {
-                let place = self.patterns.len();
-                self.patterns.push(pattern)?;
-                Ok(Some(number(place)?))
-            }
+        let Some(pattern) = PatternText::new(self.alloc, source)? else {
+            return self.refuse(Kind::BadPattern, at);
+        };
+        let place = self.patterns.len();
+        if place >= PATTERNS {
+            return self.refuse(Kind::TooLarge, at);
         }
+        self.patterns.push(pattern)?;
+        Ok(Some(number(place)?))
     }
 
     /// Counts a statement, and answers whether it is one of those that a script may have.
@@ -125,7 +133,7 @@ impl Checker {
         if !within {
             self.refusals.push(Refusal::new(Kind::TooLarge, at))?;
         }
-        self.statements = self.statements.checked_add(1).ok_or(NoMemory)?;
+        self.statements = one_more(self.statements)?;
         Ok(within)
     }
 }

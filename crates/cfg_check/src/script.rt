@@ -13,7 +13,7 @@ use crate::checker::{Checker, number};
 use crate::known::Known;
 use cfg_settings::{Kind, Refusal, Settings, settings_in};
 use cfg_tree::{RawScript, RouteKind, Script, Stmt};
-use pv_values::{BlockKind, Patterns, Place};
+use pv_values::{BlockKind, PatternText, Patterns, Place};
 use sqlite_items::Items;
 use std::alloc::{AllocError as NoMemory, Global};
 
@@ -30,7 +30,7 @@ struct Read {
     reply: Option<u32>,
     /// How many names of `$var` there are.
     vars: u32,
-    patterns: Patterns,
+    patterns: Vec<PatternText>,
 }
 
 /// The first of the refusals: it begins first, and of those that begin at one byte it has the least kind.
@@ -109,9 +109,24 @@ fn end_of(raw: &RawScript) -> Place
     }
 }
 
-/// The script that was read, where its blocks were and it has a `request_route`.
-fn script_of(alloc: Global, read: Read) -> Result<Option<Script>, NoMemory>
-    ensures { (raw : RawScript) → IsRead raw read → IfOk result (λ script. script ≡ script_of raw) }
+/// The patterns of these texts.
+fn built(alloc: Global, texts: &[PatternText]) -> Result<Patterns, NoMemory>
+    ensures { IfOk result (λ patterns. patterns ≡ texts.now) }
+{
+    let mut patterns = Vec::new(alloc);
+    for text in texts {
+        patterns.push(text.build(alloc)?)?;
+    }
+    Ok(Patterns::of(patterns))
+}
+
+/// The script that was read, with its patterns built, where its blocks were and it has a `request_route`.
+fn script_of(
+    alloc: Global,
+    read: Read,
+    patterns: Patterns,
+) -> Result<Option<Script>, NoMemory>
+    ensures { (raw : RawScript) → IsRead raw read → patterns ≡ read.patterns.items → IfOk result (λ script. script ≡ script_of raw) }
 {
     let (parameters, tables) = read.settings.into_parts(alloc)?;
     match (read.blocks, read.request) {
@@ -120,7 +135,7 @@ fn script_of(alloc: Global, read: Read) -> Result<Option<Script>, NoMemory>
             request,
             reply: read.reply,
             vars: read.vars,
-            patterns: read.patterns,
+            patterns,
             tables,
             parameters,
         })),
@@ -136,7 +151,8 @@ pub fn judged(alloc: Global, raw: &RawScript) -> Result<Result<Script, Refusal>,
     if let Some(first) = first_refusal(read.refusals.as_slice()) {
         return Ok(Err(first.copy()));
     }
-    match script_of(alloc, read)? {
+    let patterns = built(alloc, &read.patterns)?;
+    match script_of(alloc, read, patterns)? {
         Some(script) => Ok(Ok(script)),
         // A tree of which nothing is refused stands for a script.
         None => unreachable!(),

@@ -7,7 +7,7 @@ ghost use Rattle.cfg_tree.specs.declared.script.Part.TheOpen.{Part-F};
 ghost use Rattle.cfg_tree.specs.declared.script.Part.TheViews.{roll-Part};
 ghost use Rattle.cfg_lex.specs.Pieces.{as_piece};
 ghost use Rattle.cfg_check.specs.Following.{Follows};
-ghost use Rattle.cfg_check.specs.Layers.{var_layer, avp_layer, header_layer, suspension_layer};
+ghost use Rattle.cfg_check.specs.Layers.{piece_within, var_layer, avp_layer, header_layer, suspension_layer};
 
 use crate::checker::{Checker, number};
 use crate::host;
@@ -19,6 +19,9 @@ use cfg_tree::{Part, RawVariable, TableUse, Variable};
 use pv_values::{Place, PvUse, Text, Transformation};
 use sqlite_items::{Boxed, Items};
 use std::alloc::{AllocError as NoMemory, Global};
+
+/// At most so many variables are open at a place of a text, each in the key of the one before it.
+const NESTED: usize = 32;
 
 /// The name of an AVP: `s:` before it says nothing.
 fn avp_name(inner: &[u8]) -> &[u8]
@@ -185,7 +188,7 @@ impl Checker {
         }
     }
 
-    /// A variable, whose key has keys nested in it at most so deep.
+    /// A variable, in whose key so many others may still be opened.
     #[cycle(expansions)]
     fn variable_within(
         &mut self,
@@ -206,7 +209,7 @@ impl Checker {
         }
     }
 
-    /// A piece of a text that is expanded.
+    /// A piece of a text that is expanded, where so many variables may still be opened.
     #[cycle(expansions)]
     fn piece(
         &mut self,
@@ -215,15 +218,16 @@ impl Checker {
         at: Place,
         piece: &Piece,
     ) -> Result<Option<Part>, NoMemory>
-        ensures { IfOk result (λ v. Follows (names.piece_part known.now (names.expansion_within depth known.now at) at (as_piece piece.now)) self.old v self.new) }
+        ensures { IfOk result (λ v. Follows (piece_within depth known.now at (as_piece piece.now)) self.old v self.new) }
     {
         match piece {
             Piece::Plain(text) => Ok(Some(Part::Text(text.copy(self.alloc())?))),
-            Piece::Of(v) => self.variable_within(depth, known, at, v),
+            Piece::Of(_) if depth == 0 => self.refuse(Kind::UnknownVariable, at),
+            Piece::Of(v) => self.variable_within(depth - 1, known, at, v),
         }
     }
 
-    /// The parts of a text that is expanded, whose keys are nested at most so deep.
+    /// The parts of a text that is expanded, where so many variables, one in the key of another, may still be opened.
     #[cycle(expansions)]
     fn expansion_within(
         &mut self,
@@ -234,15 +238,12 @@ impl Checker {
     ) -> Result<Option<Items<Part>>, NoMemory>
         ensures { IfOk result (λ v. Follows (names.expansion_within depth known.now at text.now) self.old v self.new) }
     {
-        if depth == 0 {
-            return self.refuse(Kind::UnknownVariable, at);
-        }
         let Some(pieces) = pieces(self.alloc(), text)? else {
             return self.refuse(Kind::UnknownVariable, at);
         };
         let mut parts = Some(Items::new(self.alloc()));
         for piece in &pieces {
-            let part = self.piece(depth - 1, known, at, piece)?;
+            let part = self.piece(depth, known, at, piece)?;
             parts = with_item(parts, part)?;
         }
         Ok(parts)
@@ -257,17 +258,13 @@ impl Checker {
     ) -> Result<Option<Items<Part>>, NoMemory>
         ensures { IfOk result (λ v. Follows (names.expansion known.now at text.now) self.old v self.new) }
     {
-        self.expansion_within(text.len() + 1, known, at, text)
+        self.expansion_within(NESTED, known, at, text)
     }
 
     /// A variable of the script's text.
     pub fn variable(&mut self, known: &Known, v: &RawVariable) -> Result<Option<Part>, NoMemory>
         ensures { IfOk result (λ part. Follows (names.part_of known.now v.now.at v.now.variable) self.old part self.new) }
     {
-        let longest = match &v.variable.inner {
-            None => 0,
-            Some(inner) => inner.bytes().len(),
-        };
-        self.variable_within(longest + 1, known, v.at, &v.variable)
+        self.variable_within(NESTED - 1, known, v.at, &v.variable)
     }
 }

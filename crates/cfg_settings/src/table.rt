@@ -2,7 +2,7 @@
 
 ghost use Rattle.std.specs.Prelude.{◌≡◌, Some, None, IfOk};
 ghost use Rattle.cfg_tree.specs.Names.{table_and_key};
-ghost use Rattle.cfg_tree.specs.Settings.{with_part, with_parts, at_semicolons, without_empty_end, spec_of, table_in};
+ghost use Rattle.cfg_tree.specs.Settings.{one_alone, with_part, with_parts, at_semicolons, without_empty_end, spec_of, table_in};
 ghost use Rattle.cfg_settings.specs.Parts.{part_number};
 
 use crate::bytes::{before, cut_at, stands_at};
@@ -47,6 +47,13 @@ fn number_of(part: &[u8]) -> Option<i64>
     }
 }
 
+/// The number of the text `1`, which is written in no other way.
+fn one_alone(text: &[u8]) -> Option<u32>
+    ensures { result ≡ one_alone text.now }
+{
+    if text == b"1".as_slice() { Some(1) } else { None }
+}
+
 impl TableParts {
     fn none() -> TableParts
         ensures { result ≡ record { size = None; autoexpire = None; initval = None; update = None } }
@@ -59,11 +66,11 @@ impl TableParts {
         }
     }
 
-    /// With a part `NAME=NUMBER`, each at most once.
+    /// With a part `NAME=NUMBER` or `updateexpire=1`, each at most once.
     fn with_part(self, part: &[u8]) -> Option<TableParts>
         ensures { result ≡ with_part part.now (Some self) }
     {
-        let (name, _) = cut_at(part, b'=');
+        let (name, value) = cut_at(part, b'=');
         let number = number_of(part);
         if name == b"size".as_slice() {
             let size = first_time(self.size, number_between(2, 14, number))?;
@@ -78,13 +85,13 @@ impl TableParts {
                 ..self
             })
         } else if name == b"initval".as_slice() {
-            let value = first_time(self.initval, number)?;
+            let initval = first_time(self.initval, number)?;
             Some(TableParts {
-                initval: Some(value),
+                initval: Some(initval),
                 ..self
             })
         } else if name == b"updateexpire".as_slice() {
-            let update = first_time(self.update, number_between(1, 1, number))?;
+            let update = first_time(self.update, one_alone(value))?;
             Some(TableParts {
                 update: Some(update),
                 ..self

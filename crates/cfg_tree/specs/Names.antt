@@ -1,5 +1,5 @@
 -- What the variables of a script stand for, and the texts that are expanded.
-use Rattle.std.specs.Prelude.{ℕ, zero, suc, ◌==◌, ◌&&◌, List, [], ◌∷◌, ◌++◌, map, length, drop, position, Option, Some, None, if◌then◌else◌, codes}
+use Rattle.std.specs.Prelude.{ℕ, zero, suc, ◌-◌, ◌==◌, ◌&&◌, List, [], ◌∷◌, ◌++◌, map, length, drop, position, Option, Some, None, if◌then◌else◌, codes}
 use Rattle.std.specs.Str.{bytes_eq}
 use Rattle.pv_values.specs.declared.refusal.Place.{Place}
 use Rattle.pv_values.specs.declared.variable.PvUse.{PvUse}
@@ -118,22 +118,27 @@ abbrev pub piece_part : Known → (List ℕ → Checked (List Part)) → Place �
 piece_part known expand at (Plain t) = accepted (roll-Part (Part-F.Text t))
 piece_part known expand at (Of v) = one roll-Part (layer_by known expand at v)
 
--- the parts of a text whose keys are nested at most so deep, which is never above its length
+-- a piece where no variable may be opened any more
+abbrev pub plain_part : Place → Piece → Checked Part
+plain_part at (Plain t) = accepted (roll-Part (Part-F.Text t))
+plain_part at (Of v) = refused 9 at
+
+-- the parts of a text where so many variables, one in the key of another, may still be opened
 unfoldable pub expansion_within : ℕ → Known → Place → List ℕ → Checked (List Part)
-expansion_within zero known at text = refused 9 at
+expansion_within zero known at text = from_some (pieces_of text) 9 at (λ pieces. each (map (plain_part at) pieces))
 expansion_within (suc depth) known at text =
     from_some (pieces_of text) 9 at (λ pieces. each (map (piece_part known (expansion_within depth known at) at) pieces))
 
+-- at most so many variables are open at a place of a text
+abbrev pub max_nested : ℕ
+max_nested = 32
+
 abbrev pub expansion : Known → Place → List ℕ → Checked (List Part)
-expansion known at text = expansion_within (suc (length text)) known at text
+expansion known at text = expansion_within max_nested known at text
 
--- a variable of the script's text
-abbrev pub inner_length : Option (List ℕ) → ℕ
-inner_length None = 0
-inner_length (Some inner) = length inner
-
+-- a variable of the script's text, which is open in its own key
 abbrev pub layer_of : Known → Place → Variable → Checked Layer
-layer_of known at v = layer_by known (expansion_within (suc (inner_length v.inner)) known at) at v
+layer_of known at v = layer_by known (expansion_within (max_nested - 1) known at) at v
 
 abbrev pub part_of : Known → Place → Variable → Checked Part
 part_of known at v = one roll-Part (layer_of known at v)

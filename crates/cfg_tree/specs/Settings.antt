@@ -113,18 +113,23 @@ abbrev pub natural : Option ℤ → Option ℕ
 natural None = None
 natural (Some n) = not_below_0 n
 
--- NAME=NUMBER, each at most once
+-- the text `1`, and no other way to write that number
+abbrev pub one_alone : List ℕ → Option ℕ
+one_alone text = if bytes_eq text (codes "1") then Some 1 else None
+
+-- NAME=NUMBER, or updateexpire=1, each at most once
 abbrev pub with_part : List ℕ → Option TableParts → Option TableParts
 with_part part None = None
 with_part part (Some t) =
     let name = take (before 61 part) part in
-    let n = if begins_with 61 (drop (before 61 part) part) then number_in (drop (before 61 part + 1) part) else None in
+    let value = drop (before 61 part + 1) part in
+    let n = if begins_with 61 (drop (before 61 part) part) then number_in value else None in
     if bytes_eq name (codes "size") then option_map (λ n. record t { size = Some n }) (first_time t.size (between 2 14 (natural n)))
     else if bytes_eq name (codes "autoexpire") then
     option_map (λ n. record t { autoexpire = Some n }) (first_time t.autoexpire (between 0 10000000 (natural n)))
     else if bytes_eq name (codes "initval") then option_map (λ n. record t { initval = Some n }) (first_time t.initval n)
     else if bytes_eq name (codes "updateexpire") then
-    option_map (λ n. record t { update = Some n }) (first_time t.update (between 1 1 (natural n)))
+    option_map (λ n. record t { update = Some n }) (first_time t.update (one_alone value))
     else None
 
 abbrev pub with_parts : List (List ℕ) → Option TableParts → Option TableParts

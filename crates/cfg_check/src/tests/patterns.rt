@@ -1,6 +1,6 @@
 // Texts that are no patterns.
 
-use super::{judge_all, refusal};
+use super::{judge, judge_all, refusal};
 use pv_values::Place;
 use std::alloc::{AllocError, Global};
 use std::process::Abort;
@@ -98,5 +98,24 @@ fn only_a_pattern_has_to_be_utf_8(rt: HostRuntime) -> Result<(), Fail> {
         let (found, _) = with_bytes(alloc, before, behind)?;
         assert_eq!(rt; found, None, "{before}");
     }
+    Ok(())
+}
+
+/// A pattern that is too large to be built, between what is refused before and behind it.
+const TOO_LARGE: [(u8, &str); 4] = [
+    (6, "route{ `foo`(); return $ru =~ '\\\\w{1001}'; }"),
+    (6, "route{ return $ru =~ '\\\\w{1001}' && `foo`(); }"),
+    (12, "route{ t_check_status('\\\\w{1001}'); return $ru =~ `'('`; }"),
+    (14, "route[A]{ t_check_status('\\\\w{1001}'); }``"),
+];
+
+#[test]
+fn a_refusal_goes_before_a_pattern_that_is_too_large(rt: HostRuntime) -> Result<(), Fail> {
+    let alloc = rt.alloc();
+    for (kind, row) in &TOO_LARGE {
+        judge(&rt, alloc, *kind, "", row, "")?;
+    }
+    let alone = b"route{ return $ru =~ '\\\\w{1001}'; }";
+    assert!(rt; refusal(alloc, alone).is_err());
     Ok(())
 }

@@ -157,7 +157,7 @@ const OF_MODULES: [&str; 42] = [
 const TABLES: &str = "t=> t=>size=8 t=>size=8; t=>size=2 t=>size=14 t=>size=008 \
     t=>autoexpire=0 t=>autoexpire=-0 t=>autoexpire=10000000 \
     t=>initval=0 t=>initval=-5 t=>initval=9223372036854775807 t=>initval=-9223372036854775808; \
-    t=>updateexpire=1 t=>updateexpire=01 \
+    t=>updateexpire=1 t=>updateexpire=1; \
     t=>size=8;autoexpire=120 t=>updateexpire=1;initval=-1;autoexpire=1;size=3; \
     _=> T9_=>size=8 t9=> size=>size=8";
 
@@ -169,11 +169,12 @@ const NO_TABLES: &str = "t t= t> t=size => =>size=8 1t=> t-1=> a.b=> $t=> \u{e9}
     t=>autoexpire= t=>autoexpire=-1 t=>autoexpire=10000001 t=>autoexpire=18446744073709551616 \
     t=>autoexpire=1;autoexpire=1 t=>initval= t=>initval=- t=>initval=+1 t=>initval=--1 t=>initval=a \
     t=>initval=9223372036854775808 t=>initval=-9223372036854775809 t=>initval=1;initval=1 \
-    t=>updateexpire= t=>updateexpire=0 t=>updateexpire=2 t=>updateexpire=1;updateexpire=1 \
+    t=>updateexpire t=>updateexpire= t=>updateexpire=01 t=>updateexpire=+1 t=>updateexpire=1x t=>updateexpire=11 \
+    t=>updateexpire=0 t=>updateexpire=2 t=>updateexpire=1;updateexpire=1 \
     t=>dbtable=5 t=>=8 t=>t=> t=size=>8";
 
 /// The empty text, and those with blanks.
-const BLANKS: [&str; 9] = [
+const BLANKS: [&str; 11] = [
     "",
     " ",
     " t=>",
@@ -183,6 +184,8 @@ const BLANKS: [&str; 9] = [
     "t=>size= 8",
     "t=>size=8 ",
     "t=>size=8; autoexpire=1",
+    "t=>updateexpire= 1",
+    "t=>updateexpire=1 ",
 ];
 
 #[test]

@@ -1,7 +1,7 @@
 // Variables that aren't known, or are assigned where they may not be.
 
-use super::{BEGINNINGS, END, ROUTE, judge, judge_all, judge_where};
-use std::alloc::Global;
+use super::{BEGINNINGS, END, ROUTE, judge, judge_all, judge_where, unmarked};
+use std::alloc::{AllocError, Global};
 use std::process::Abort;
 use std::test::Fail;
 
@@ -161,6 +161,62 @@ const TEXTS: [&str; 27] = [
     "return $ru =~ '^$';",
     "return $ru =~ '$foo';",
 ];
+
+/// How many variables stand one in the key of another, the key of the innermost, and whether they may.
+const NESTED: [(usize, &str, bool); 13] = [
+    (31, "k", true),
+    (31, "$ru", true),
+    (31, "a$var(a)$(ru{s.len})b", true),
+    (31, "$foo", false),
+    (32, "k", true),
+    (32, "", true),
+    (32, "$$", true),
+    (32, "$ru", false),
+    (32, "a$var(a)", false),
+    (32, "$(ru{s.len})", false),
+    (33, "k", false),
+    (33, "", false),
+    (500, "k", false),
+];
+
+/// A variable with others in its key, so many in all.
+fn nested(alloc: Global, count: usize, key: &str) -> Result<String, AllocError> {
+    let open = "$sht(t=>".repeat(alloc, count)?;
+    let close = ")".repeat(alloc, count)?;
+    format!(in alloc; "{open}{key}{close}")
+}
+
+/// The row without its marks where it is accepted, with a text in place of the question mark.
+fn judge_nested(
+    rt: &impl Abort,
+    alloc: Global,
+    may: bool,
+    row: &str,
+    text: &str,
+) -> Result<(), Fail> {
+    let plain = unmarked(alloc, row)?;
+    let row = if may { plain.as_str() } else { row };
+    judge_with(rt, alloc, &[row], text)
+}
+
+#[test]
+fn variables_stand_32_deep(rt: HostRuntime) -> Result<(), Fail> {
+    let alloc = rt.alloc();
+    for (count, key, may) in &NESTED {
+        let variable = nested(alloc, *count, key)?;
+        for row in VARIABLE_PLACES.iter().chain(&TEXT_PLACES) {
+            judge_nested(&rt, alloc, *may, row, variable.as_str())?;
+        }
+    }
+    Ok(())
+}
+
+#[test]
+fn a_mebibyte_of_nested_variables_is_refused(rt: HostRuntime) -> Result<(), Fail> {
+    let alloc = rt.alloc();
+    let variable = nested(alloc, 116_000, "k")?;
+    judge_with(&rt, alloc, &["return `?`;", "xlog(`'?'`);"], variable.as_str())
+}
 
 /// With a text in place of the question mark.
 fn judge_with(rt: &impl Abort, alloc: Global, rows: &[&str], text: &str) -> Result<(), Fail> {

@@ -5,18 +5,14 @@ use Rattle.cfg_tree.specs.Names.{named, transformation_names}
 use Rattle.cfg_tree.specs.Refusals.{accepted, from_some}
 use Rattle.cfg_lex.specs.Pieces.{as_piece}
 use Rattle.cfg_check.specs.Following.{Follows}
-use Rattle.cfg_check.proofs.Expansions.{answered, too_deep, no_pieces, by_pieces, transformed_by}
+use Rattle.cfg_check.proofs.Expansions.{answered, no_pieces, by_pieces, transformed_by}
 use Rattle.cfg_check.proofs.Follows.{each_item, each_whole}
 use Rattle.cfg_check.proofs.checker.Checker.+expansions.Goals as goal
-
-pub expansion_within-returns-then-depth-eq0 : goal.expansion_within-returns-then-depth-eq0
-expansion_within-returns-then-depth-eq0 t c =
-    answered c.refuse.result _ _ _ _ (too_deep c.args.depth c.args.known.now c.args.at c.args.text.now c.if-depth-eq0.true) c.refuse.ensures
 
 pub expansion_within-returns-in_default : goal.expansion_within-returns-in_default
 expansion_within-returns-in_default t c =
     let none = subst (λ o. option_map (λ v. map as_piece v.items) o ≡ pieces_of c.args.text.now) c.in_default.is c.in_ok-pieces.ensures in
-    answered c.refuse-in_default.result _ _ _ _ (no_pieces c.args.depth c.args.known.now c.args.at c.args.text.now c.if-depth-eq0.false none) c.refuse-in_default.ensures
+    answered c.refuse.result _ _ _ _ (no_pieces c.args.depth c.args.known.now c.args.at c.args.text.now none) c.refuse.ensures
 
 pub expansion_within-loop-piece-preserved : goal.expansion_within-loop-piece-preserved
 expansion_within-loop-piece-preserved t c =
@@ -26,7 +22,7 @@ pub expansion_within-returns : goal.expansion_within-returns
 expansion_within-returns t c =
     let some = subst (λ o. option_map (λ v. map as_piece v.items) o ≡ pieces_of c.args.text.now) c.in-Some.is c.in_ok-pieces.ensures in
     let some' = subst (λ ps. Some (map as_piece ps) ≡ pieces_of c.args.text.now) (sym c.deref-piece-items.ensures.value) some in
-    by_pieces c.args.depth c.args.known.now c.args.at c.args.text.now c.deref-piece-items.result.now _ _ _ c.if-depth-eq0.false some'
+    by_pieces c.args.depth c.args.known.now c.args.at c.args.text.now c.deref-piece-items.result.now _ _ _ some'
     (each_whole _ c.deref-piece-items.result.now c.loop-piece.piece-index _ _ _ c.loop-piece-test.false c.loop-piece.invariant)
 
 pub variable_within-returns-in_ok-transformation-in-Some : goal.variable_within-returns-in_ok-transformation-in-Some
