@@ -23,7 +23,7 @@ pub mod variable;
 pub use block::BlockKind;
 pub use function::Func;
 pub use matcher::{Matchers, PatternMatcher};
-pub use operator::{BinOp, binary};
+pub use operator::{BinOp, binary, operate};
 pub use pattern::{Pattern, PatternFault, Patterns};
 pub use pattern_text::PatternText;
 pub use refusal::{Place, ScriptFault};

@@ -38,8 +38,15 @@ pub enum BinOp {
 /// The longest text of a value, in bytes.
 pub const LONGEST_TEXT: usize = 8192;
 
+/// What the operator gives for these values, which are looked at. Each is copied first: `operate` takes them as they are.
+pub fn binary(alloc: Global, op: BinOp, a: &Val, b: &Val) -> Result<Val, NoMemory>
+    ensures { IfOk result (λ v. v ≡ binary_value op a.now b.now) }
+{
+    operate(alloc, op, a.copy(alloc)?, b.copy(alloc)?)
+}
+
 /// What the operator gives for these values. Only `+` on a text may take memory.
-pub fn binary(alloc: Global, op: BinOp, a: Val, b: Val) -> Result<Val, NoMemory>
+pub fn operate(alloc: Global, op: BinOp, a: Val, b: Val) -> Result<Val, NoMemory>
     ensures { IfOk result (λ v. v ≡ binary_value op a b) }
 {
     match op {

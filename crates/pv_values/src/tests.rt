@@ -29,7 +29,7 @@ fn is_value(a: &Val, b: &Val) -> bool {
 
 fn gives(alloc: Global, row: &(BinOp, &str, &str, &str)) -> Result<bool, AllocError> {
     let (op, left, right, wanted) = *row;
-    let found = binary(alloc, op, value(alloc, left)?, value(alloc, right)?)?;
+    let found = binary(alloc, op, &value(alloc, left)?, &value(alloc, right)?)?;
     Ok(is_value(&found, &value(alloc, wanted)?))
 }
 
@@ -191,9 +191,9 @@ fn values_are_true_or_false(rt: HostRuntime) -> Result<(), Fail> {
 fn a_text_above_8192_bytes_is_null(rt: HostRuntime) -> Result<(), Fail> {
     let alloc = rt.alloc();
     let long = Val::Text(Text::of(vec![in alloc; b'x'; 8191]?));
-    let one_more = binary(alloc, BinOp::Add, long.copy(alloc)?, Val::Int(5))?;
+    let one_more = binary(alloc, BinOp::Add, &long, &Val::Int(5))?;
     assert_eq!(rt; as_text(alloc, &one_more)?.bytes().len(), 8192);
-    let two_more = binary(alloc, BinOp::Add, long, Val::Int(55))?;
+    let two_more = binary(alloc, BinOp::Add, &long, &Val::Int(55))?;
     assert!(rt; is_value(&two_more, &Val::Null));
     Ok(())
 }

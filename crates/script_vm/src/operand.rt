@@ -5,14 +5,14 @@ ghost use Rattle.pv_values.specs.Values.{negated, code_of, value_read, told_valu
 ghost use Rattle.cfg_tree.specs.Meaning.{matched, end_of};
 
 use pv_values::operator::text_value;
-use pv_values::{BinOp, HostAnswer, How, Matchers, Val, as_int, as_text, binary};
+use pv_values::{BinOp, HostAnswer, How, Matchers, Val, as_int, as_text, operate};
 use std::alloc::{AllocError as NoMemory, Global};
 
 /// 0 without a number.
 pub fn negative(alloc: Global, v: Val) -> Result<Val, NoMemory>
     ensures { IfOk result (λ w. w ≡ negated v) }
 {
-    binary(alloc, BinOp::Sub, Val::Int(0), v)
+    operate(alloc, BinOp::Sub, Val::Int(0), v)
 }
 
 /// The pattern of this number matches in a value.

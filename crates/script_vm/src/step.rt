@@ -14,7 +14,7 @@ use cfg_code::{Instr, Loaded, Wait};
 use cfg_tree::transform;
 use pv_values::operator::{bit_value, sum};
 use pv_values::value::into_text;
-use pv_values::{BinOp, How, Matchers, Transformation, Val, binary, truth};
+use pv_values::{BinOp, How, Matchers, Transformation, Val, operate, truth};
 use std::alloc::Global;
 
 impl Run {
@@ -131,7 +131,7 @@ impl Run {
     {
         let y = self.pop()?;
         let x = self.pop()?;
-        let v = binary(alloc, op, x, y)?;
+        let v = operate(alloc, op, x, y)?;
         self.put(v)
     }
 
