@@ -143,6 +143,14 @@ fn script_of(
     }
 }
 
+/// The script that was read, for which its patterns are built now.
+fn built_script(alloc: Global, read: Read) -> Result<Option<Script>, NoMemory>
+    ensures { (raw : RawScript) → IsRead raw read → IfOk result (λ script. script ≡ script_of raw) }
+{
+    let patterns = built(alloc, &read.patterns)?;
+    script_of(alloc, read, patterns)
+}
+
 /// The script that a tree stands for, or its first refusal.
 pub fn judged(alloc: Global, raw: &RawScript) -> Result<Result<Script, Refusal>, NoMemory>
     ensures { IfOk result (IsJudged raw.now) }
@@ -151,8 +159,7 @@ pub fn judged(alloc: Global, raw: &RawScript) -> Result<Result<Script, Refusal>,
     if let Some(first) = first_refusal(read.refusals.as_slice()) {
         return Ok(Err(first.copy()));
     }
-    let patterns = built(alloc, &read.patterns)?;
-    match script_of(alloc, read, patterns)? {
+    match built_script(alloc, read)? {
         Some(script) => Ok(Ok(script)),
         // A tree of which nothing is refused stands for a script.
         None => unreachable!(),
