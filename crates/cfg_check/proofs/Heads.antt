@@ -203,8 +203,8 @@ added_new test eq places new heads more key x n r e same got none keyed end upda
     let blocks = map shown heads in
     let absent = sym (got ∙ by_test test x places e ∙ all x) ∙ copied_none r none in
     let put = found_new places new blocks key x n absent keyed (end ∙ sym (length-map heads shown)) (λ h.
-        sym (by_test (eq h) h new (same h)) ∙ updates h ∙ ap (λ b. cond b (Some n) (lookup (eq h) places)) (same key h)
-        ∙ ap (λ o. cond (same_head key h) (Some n) o) (by_test (eq h) h places (same h))) all in
+    sym (by_test (eq h) h new (same h)) ∙ updates h ∙ ap (λ b. cond b (Some n) (lookup (eq h) places)) (same key h)
+    ∙ ap (λ o. cond (same_head key h) (Some n) o) (by_test (eq h) h places (same h))) all in
     subst (FindsFirst new) (sym (shown_more heads more x is)) put
 
 -- ---- a place is known that is merely known to be one

@@ -5,9 +5,9 @@ ghost use Rattle.cfg_tree.specs.Checks.{block_name, blocks_of, name_place, twice
 ghost use Rattle.cfg_check.specs.Following.{Follows};
 ghost use Rattle.cfg_check.specs.Heads.{shown};
 
-use crate::index::Blocks;
 use crate::checker::Checker;
 use crate::head::Head;
+use crate::index::Blocks;
 use crate::joins::with_item;
 use crate::known::Known;
 use cfg_settings::{Kind, Refusal};

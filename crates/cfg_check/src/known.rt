@@ -4,8 +4,8 @@ ghost use Rattle.std.specs.Prelude.{◌≡◌, Some, None, IfOk, position};
 ghost use Rattle.std.specs.Str.{bytes_eq};
 ghost use Rattle.cfg_tree.specs.Functions as functions;
 
-use crate::index::Blocks;
 use crate::head::Head;
+use crate::index::Blocks;
 use cfg_tree::RouteKind;
 use pv_values::Text;
 use sqlite_items::Items;

@@ -121,11 +121,7 @@ fn built(alloc: Global, texts: &[PatternText]) -> Result<Patterns, NoMemory>
 }
 
 /// The script that was read, with its patterns built, where its blocks were and it has a `request_route`.
-fn script_of(
-    alloc: Global,
-    read: Read,
-    patterns: Patterns,
-) -> Result<Option<Script>, NoMemory>
+fn script_of(alloc: Global, read: Read, patterns: Patterns) -> Result<Option<Script>, NoMemory>
     ensures { (raw : RawScript) → IsRead raw read → patterns ≡ read.patterns.items → IfOk result (λ script. script ≡ script_of raw) }
 {
     let (parameters, tables) = read.settings.into_parts(alloc)?;

@@ -51,7 +51,11 @@ fn number_of(part: &[u8]) -> Option<i64>
 fn one_alone(text: &[u8]) -> Option<u32>
     ensures { result ≡ one_alone text.now }
 {
-    if text == b"1".as_slice() { Some(1) } else { None }
+    if text == b"1".as_slice() {
+        Some(1)
+    } else {
+        None
+    }
 }
 
 impl TableParts {

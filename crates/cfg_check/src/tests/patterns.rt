@@ -105,7 +105,10 @@ fn only_a_pattern_has_to_be_utf_8(rt: HostRuntime) -> Result<(), Fail> {
 const TOO_LARGE: [(u8, &str); 4] = [
     (6, "route{ `foo`(); return $ru =~ '\\\\w{1001}'; }"),
     (6, "route{ return $ru =~ '\\\\w{1001}' && `foo`(); }"),
-    (12, "route{ t_check_status('\\\\w{1001}'); return $ru =~ `'('`; }"),
+    (
+        12,
+        "route{} route[X]{ t_check_status('\\\\w{1001}'); return $ru =~ `'('`; }",
+    ),
     (14, "route[A]{ t_check_status('\\\\w{1001}'); }``"),
 ];
 

@@ -215,7 +215,12 @@ fn variables_stand_32_deep(rt: HostRuntime) -> Result<(), Fail> {
 fn a_mebibyte_of_nested_variables_is_refused(rt: HostRuntime) -> Result<(), Fail> {
     let alloc = rt.alloc();
     let variable = nested(alloc, 116_000, "k")?;
-    judge_with(&rt, alloc, &["return `?`;", "xlog(`'?'`);"], variable.as_str())
+    judge_with(
+        &rt,
+        alloc,
+        &["return `?`;", "xlog(`'?'`);"],
+        variable.as_str(),
+    )
 }
 
 /// With a text in place of the question mark.
