@@ -151,3 +151,18 @@ fn sixty_four_edits(rt: HostRuntime) {
     assert!(rt; apply(TEXT, edits.as_slice(), &mut room) == Ok(6));
     assert_eq!(rt; &room[..6], b"bcdef-".as_slice());
 }
+
+/// More edits than are put in order make the same text as few do.
+#[test]
+fn many_changes(rt: HostRuntime) {
+    let many = [insert(3, b"-"); 80];
+    let mut edits = Edits::new();
+    assert!(rt; edits.cut(Span { from: 1, to: 4 }).is_ok());
+    assert!(rt; edits.insert(rt.alloc(), 6, b"!").is_ok());
+    let mut room = [7; 96];
+    assert!(rt; apply_after(TEXT, &many, edits.as_slice(), &mut room) == Ok(84));
+    assert_eq!(rt; room.first(), Some(&b'a'));
+    assert!(rt; room[1..81].iter().all(|b| *b == b'-'));
+    assert_eq!(rt; &room[81..84], b"ef!".as_slice());
+    assert!(rt; room[84..].iter().all(|b| *b == 7));
+}
