@@ -329,7 +329,7 @@ const WAITING: [&str; 74] = [
     "CallFunction(IsMethod 'REGISTER')",
     "ExitOnZero",
     "LoadSuccess",
-    "JumpIfFalse(40)",
+    "JumpIfFalse(35)",
     "CountStatement",
     "Push('')",
     "Push('')",

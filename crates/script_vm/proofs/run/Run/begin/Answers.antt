@@ -1,5 +1,6 @@
-use Rattle.std.proofs.Common.{refl}
+use Rattle.std.proofs.Common.{◌≡◌, refl}
 use Rattle.cfg_tree.specs.Meaning.{dialogue}
+use Rattle.cfg_code.specs.Machine.{begun}
 use Rattle.script_vm.proofs.Goes.{begins}
 use Rattle.script_vm.proofs.run.Run.begin.Goals as goal
 

@@ -1,4 +1,4 @@
-use Rattle.std.proofs.Common.{◌≡◌, arith, ◌∙◌}
+use Rattle.std.proofs.Common.{◌≡◌, arith, sym, ◌∙◌}
 use Rattle.cfg_code.specs.declared.machine.Event.TheVariants.{Moved, Asked, Over}
 use Rattle.cfg_code.specs.Machine.{step_of}
 use Rattle.script_vm.specs.Running.{with_patterns}
