@@ -5,10 +5,13 @@
 //! given back once.
 #![tactic(auto)]
 
+pub mod laws;
 mod ledger;
 mod pool;
+mod record;
 
 pub use pool::{BLOCK_SIZE, Block, Pool};
+pub use record::PoolRecord;
 
 #[cfg(test)]
 mod tests;

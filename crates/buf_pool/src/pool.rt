@@ -77,7 +77,10 @@ impl Model for Pool {
 }
 
 impl Pool {
+    ghost use Rattle.std.specs.Prelude.{is_some};
     ghost use Rattle.buf_pool.specs.Pools.{size_of, after_take, after_give};
+    ghost use Rattle.buf_pool.specs.Records.{PoolStep};
+    ghost use Rattle.buf_pool.specs.declared.record.PoolRecord.TheVariants as recorded;
 
     /// A pool of this many blocks, all of them free. The memory of all of them is taken here, `BLOCK_SIZE` bytes a block,
     /// and their bytes are 0. No later call takes memory or clears any.
@@ -101,6 +104,7 @@ impl Pool {
         ensures none { IfNone result ((self.old.free ≡ 0) × (self.new ≡ self.old)) }
         ensures name { self.new.name ≡ self.old.name }
         ensures size { size_of self.new ≡ size_of self.old }
+        ensures step { PoolStep self.old (recorded.Take (is_some result)) self.new }
     {
         let memory = self.free.pop()?;
         let share = self.ledger.lend();
@@ -114,6 +118,7 @@ impl Pool {
         ensures was_out { 0 < self.old.out }
         ensures name { self.new.name ≡ self.old.name }
         ensures size { size_of self.new ≡ size_of self.old }
+        ensures step { PoolStep self.old recorded.Give self.new }
     {
         let Block { memory, share } = block;
         self.ledger.take_back(share);
@@ -122,7 +127,8 @@ impl Pool {
 
     /// How many blocks are free.
     pub fn free(&self) -> u32
-        ensures { result ≡ self.now.free }
+        ensures free { result ≡ self.now.free }
+        ensures step { PoolStep self.now (recorded.Free result) self.now }
     {
         self.free.len() as u32
     }

@@ -10,8 +10,8 @@ use Rattle.cfg_tree.specs.declared.script.Stmt.{Stmt}
 use Rattle.cfg_tree.specs.Names.{Known}
 use Rattle.cfg_tree.specs.Refusals.{Checked, join, each}
 use Rattle.cfg_tree.specs.Checks.{stmt_in, all_in, block_of, blocks_of, body_in, bodies_in}
-use Rattle.cfg_check.specs.Following.{State, Follows}
-use Rattle.cfg_check.proofs.Follows.{follows_each_more}
+use Rattle.cfg_calls.specs.Following.{State, Follows}
+use Rattle.cfg_calls.proofs.Follows.{follows_each_more}
 
 blocks_step : (items : List RawItem) (i : ℕ) (x : RawItem) → i < length items → x ≡ get_or items i x → blocks_of (take (i + 1) items) ≡ blocks_of (take i items) ++ block_of x
 blocks_step items i x lt is =

@@ -11,7 +11,7 @@ use Rattle.cfg_tree.specs.Refusals.{Refusal, Seen}
 use Rattle.cfg_tree.specs.Settings.{Settings, settings_of, setting_refusals}
 use Rattle.cfg_tree.specs.Functions.{is_same_block}
 use Rattle.cfg_tree.specs.Checks.{block_name, blocks_of, block_refusals, bodies_in, known_of, nothing_seen, bodies_of, unnamed, no_request, refusals_of}
-use Rattle.cfg_check.specs.Following.{State, Follows}
+use Rattle.cfg_calls.specs.Following.{State, Follows}
 use Rattle.cfg_check.specs.Reading.{IsRead}
 use Rattle.cfg_check.specs.declared.script.Read.{Read}
 

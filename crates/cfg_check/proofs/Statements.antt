@@ -23,9 +23,9 @@ use Rattle.cfg_tree.specs.declared.script.Stmt.TheViews.{roll-Stmt}
 use Rattle.cfg_tree.specs.Names.{Known}
 use Rattle.cfg_tree.specs.Refusals.{Checked, accepted, join, one, both, three, each}
 use Rattle.cfg_tree.specs.Checks.{expr_in, call_in, target_of, maybe_expr, maybe, numbered, all_in, stmt_step, stmt_in}
-use Rattle.cfg_check.specs.Following.{State, Follows, Counts, within_limit}
+use Rattle.cfg_calls.specs.Following.{State, Follows, Counts, within_limit}
 use Rattle.cfg_check.specs.Cases.{Begins, case_in, cases_in, switch_in}
-use Rattle.cfg_check.proofs.Follows.{follows_accepted, follows_one, follows_both, follows_three, follows_numbered, ok_follows}
+use Rattle.cfg_calls.proofs.Follows.{follows_accepted, follows_one, follows_both, follows_three, follows_numbered, ok_follows}
 
 abbrev pub single : Option Stmt → Option (List Stmt)
 single = option_map (λ s. s ∷ [])

@@ -12,7 +12,7 @@ use Rattle.cfg_tree.specs.declared.script.Target.{Target}
 use Rattle.cfg_tree.specs.Names.{Known, Layer, layer_of, part_of}
 use Rattle.cfg_tree.specs.Refusals.{Refusal, Seen, refused}
 use Rattle.cfg_tree.specs.Checks.{target_in, target_of, found, found_as}
-use Rattle.cfg_check.specs.Following.{State, Follows}
+use Rattle.cfg_calls.specs.Following.{State, Follows}
 
 -- the layer of a part that is made of one
 layer_none : (l : Option Layer) → None ≡ option_map roll-Part l → l ≡ None

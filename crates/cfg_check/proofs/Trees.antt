@@ -18,8 +18,8 @@ use Rattle.cfg_tree.specs.Names.{Known}
 use Rattle.cfg_tree.specs.Functions.{pattern_number}
 use Rattle.cfg_tree.specs.Refusals.{Checked, join, both, one, each}
 use Rattle.cfg_tree.specs.Checks.{expr_step, expr_in}
-use Rattle.cfg_check.specs.Following.{State, Follows}
-use Rattle.cfg_check.proofs.Follows.{follows_both, ok_follows}
+use Rattle.cfg_calls.specs.Following.{State, Follows}
+use Rattle.cfg_calls.proofs.Follows.{follows_both, ok_follows}
 
 -- an operand of a chain, with the operator before it
 abbrev pub link_in : Known → RouteKind → BinOp × RawExpr → Checked (BinOp × Expr)

@@ -8,7 +8,7 @@ use Rattle.cfg_tree.specs.declared.script.Script.{Script}
 use Rattle.cfg_tree.specs.Names.{Known}
 use Rattle.cfg_tree.specs.Settings.{setting_refusals}
 use Rattle.cfg_tree.specs.Checks.{body_in, bodies_in, blocks_of, block_refusals, known_of, nothing_seen, bodies_of, unnamed, no_request, refusals_of, script_with, script_of}
-use Rattle.cfg_check.proofs.Valued.{Valued, some_left, none_is_some, both_empty, map_valued}
+use Rattle.cfg_calls.proofs.Valued.{Valued, some_left, none_is_some, both_empty, map_valued}
 use Rattle.cfg_check.proofs.ValuedTrees.{body_valued}
 
 bodies_valued : (known : Known) (bs : List RawBlock) → Valued (bodies_in known bs)

@@ -27,9 +27,9 @@ use Rattle.cfg_tree.specs.Names.{Known, layer_of, part_of}
 use Rattle.cfg_tree.specs.Functions.{function_call, block_number, pattern_number}
 use Rattle.cfg_tree.specs.Checks.{call_in, myself, expr_step, expr_in, target_in, found_as, found, target_of, numbered, flat, all_in, maybe_expr, stmt_step, stmt_in, body_in}
 use Rattle.cfg_tree.specs.Refusals.{Refusal, Seen, Checked, accepted, one, each}
-use Rattle.cfg_check.proofs.Valued.{Stands, Valued, AllValued, some_left, none_is_some, both_empty, accepted_valued, one_valued, both_valued, three_valued, each_valued, map_valued, unless_valued}
-use Rattle.cfg_check.proofs.ValuedNames.{layer_of_valued, part_of_valued}
-use Rattle.cfg_check.proofs.ValuedFunctions.{function_call_valued, block_number_valued, pattern_number_valued}
+use Rattle.cfg_calls.proofs.Valued.{Stands, Valued, AllValued, some_left, none_is_some, both_empty, accepted_valued, one_valued, both_valued, three_valued, each_valued, map_valued, unless_valued}
+use Rattle.cfg_calls.proofs.ValuedNames.{layer_of_valued, part_of_valued}
+use Rattle.cfg_calls.proofs.ValuedFunctions.{function_call_valued, block_number_valued, pattern_number_valued}
 
 -- ---- expressions
 

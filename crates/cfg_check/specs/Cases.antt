@@ -12,7 +12,7 @@ use Rattle.cfg_tree.specs.declared.script.Stmt.TheViews.{roll-Stmt}
 use Rattle.cfg_tree.specs.Names.{Known}
 use Rattle.cfg_tree.specs.Refusals.{Checked, join, one, three, each}
 use Rattle.cfg_tree.specs.Checks.{expr_in, stmt_in, all_in, numbered}
-use Rattle.cfg_check.specs.Following.{State, Follows, Counts, within_limit}
+use Rattle.cfg_calls.specs.Following.{State, Follows, Counts, within_limit}
 
 -- a statement was counted, then its expression was checked, and then a part of it: both are read, if it is within the limit
 pub record Begins {X : Type 0} (known : Known) (kind : RouteKind) (at : Place) (e : RawExpr) (part : Checked X) (old : State) (read : Option (Expr × X)) (new : State) : Type 0 where

@@ -1,9 +1,3 @@
 pub mod Answer
-pub mod Names
-pub mod Following
-pub mod Lookups
-pub mod Layers
-pub mod Heads
-pub mod Calls
 pub mod Reading
 pub mod Cases

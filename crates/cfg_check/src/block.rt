@@ -1,15 +1,12 @@
-// Blocks.
+//! Blocks.
 
 ghost use Rattle.std.specs.Prelude.{◌≡◌, ◌++◌, [], length, map, IfOk, OnOk};
 ghost use Rattle.cfg_tree.specs.Checks.{block_name, blocks_of, name_place, twice, too_many, block_refusals, bodies_in};
-ghost use Rattle.cfg_check.specs.Following.{Follows};
-ghost use Rattle.cfg_check.specs.Heads.{shown};
+ghost use Rattle.cfg_calls.specs.Following.{Follows};
+ghost use Rattle.cfg_calls.specs.Heads.{shown};
 
-use crate::checker::Checker;
-use crate::head::Head;
-use crate::index::Blocks;
-use crate::joins::with_item;
-use crate::known::Known;
+use crate::stmt;
+use cfg_calls::{Blocks, Checker, Head, Known, with_item};
 use cfg_settings::{Kind, Refusal};
 use cfg_tree::{RawBlock, RawItem, Stmt};
 use pv_values::Place;
@@ -68,22 +65,20 @@ pub fn blocks_in(
     Ok(blocks)
 }
 
-impl Checker {
-    /// The statements of the blocks, block by block.
-    pub fn bodies(
-        &mut self,
-        known: &Known,
-        items: &[RawItem],
-    ) -> Result<Option<Items<Items<Stmt>>>, NoMemory>
-        ensures { IfOk result (λ r. Follows (bodies_in known.now (blocks_of items.now)) self.old r self.new) }
-    {
-        let mut bodies = Some(Items::new(self.alloc()));
-        for item in items {
-            if let RawItem::Block(block) = item {
-                let body = self.stmts(known, block.kind, block.body.as_slice())?;
-                bodies = with_item(bodies, body)?;
-            }
+/// The statements of the blocks, block by block.
+pub fn bodies(
+    checker: &mut Checker,
+    known: &Known,
+    items: &[RawItem],
+) -> Result<Option<Items<Items<Stmt>>>, NoMemory>
+    ensures { IfOk result (λ r. Follows (bodies_in known.now (blocks_of items.now)) checker.old r checker.new) }
+{
+    let mut bodies = Some(Items::new(checker.alloc()));
+    for item in items {
+        if let RawItem::Block(block) = item {
+            let body = stmt::stmts(checker, known, block.kind, block.body.as_slice())?;
+            bodies = with_item(bodies, body)?;
         }
-        Ok(bodies)
     }
+    Ok(bodies)
 }

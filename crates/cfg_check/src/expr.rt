@@ -1,15 +1,13 @@
-// Expressions.
+//! Expressions.
 
 ghost use Rattle.std.specs.Prelude.{◌≡◌, ◌∷◌, [], IfOk, map, option_map};
 ghost use Rattle.cfg_tree.specs.Checks as checks;
 ghost use Rattle.cfg_tree.specs.Refusals.{join, each, one};
 ghost use Rattle.cfg_tree.specs.declared.script.Expr.TheOpen.{Expr-F};
 ghost use Rattle.cfg_tree.specs.declared.script.Expr.TheViews.{roll-Expr};
-ghost use Rattle.cfg_check.specs.Following.{Follows};
+ghost use Rattle.cfg_calls.specs.Following.{Follows};
 
-use crate::checker::Checker;
-use crate::joins::with_item;
-use crate::known::Known;
+use cfg_calls::{Checker, Known, with_item};
 use cfg_tree::{Expr, Part, RawCall, RawExpr, RouteKind};
 use pv_values::{BinOp, PvUse};
 use sqlite_items::{Boxed, Items};
@@ -73,121 +71,119 @@ fn link(operator: BinOp, operand: Option<Expr>) -> Option<(BinOp, Expr)>
     Some((operator, operand?))
 }
 
-impl Checker {
-    /// A call of a function or a route, in a block of this kind.
-    #[tactic(auto, using(crate::proofs::Follows::follows_one))]
-    pub fn call(
-        &mut self,
-        known: &Known,
-        kind: RouteKind,
-        call: &RawCall,
-    ) -> Result<Option<Expr>, NoMemory>
-        ensures { IfOk result (λ v. Follows (checks.call_in known.now kind call.now) self.old v self.new) }
-    {
-        match call {
-            RawCall::Function(word, args) => {
-                match self.function_call(known, kind, word, args.as_slice())? {
-                    Some((func, arguments)) => Ok(Some(Expr::Call(func, arguments))),
-                    None => Ok(None),
-                }
-            }
-            RawCall::Route(word) => {
-                match self.block_number(known, RouteKind::Route, word)? {
-                    Some(block) => Ok(Some(Expr::Route(block))),
-                    None => Ok(None),
-                }
-            }
-        }
-    }
-
-    /// An expression, in a block of this kind.
-    #[tactic(auto, using(crate::proofs::Follows::follows_one, crate::proofs::Follows::follows_both, crate::proofs::Follows::follows_accepted))]
-    #[cycle(exprs)]
-    pub fn expr(
-        &mut self,
-        known: &Known,
-        kind: RouteKind,
-        e: &RawExpr,
-    ) -> Result<Option<Expr>, NoMemory>
-        ensures { IfOk result (λ v. Follows (checks.expr_in known.now kind e.now) self.old v self.new) }
-    {
-        match e {
-            RawExpr::Number(n) => Ok(Some(Expr::Int(*n))),
-            RawExpr::String(word) => Ok(Some(Expr::Text(word.text.copy(self.alloc())?))),
-            RawExpr::Variable(v) => match self.variable(known, v)? {
-                Some(part) => Ok(Some(Expr::Read(part))),
+/// A call of a function or a route, in a block of this kind.
+#[tactic(auto, using(cfg_calls::proofs::Follows::follows_one))]
+pub fn call(
+    checker: &mut Checker,
+    known: &Known,
+    kind: RouteKind,
+    call: &RawCall,
+) -> Result<Option<Expr>, NoMemory>
+    ensures { IfOk result (λ v. Follows (checks.call_in known.now kind call.now) checker.old v checker.new) }
+{
+    match call {
+        RawCall::Function(word, args) => {
+            match checker.function_call(known, kind, word, args.as_slice())? {
+                Some((func, arguments)) => Ok(Some(Expr::Call(func, arguments))),
                 None => Ok(None),
-            },
-            RawExpr::Call(call) => self.call(known, kind, call),
-            RawExpr::Not(a) => {
-                let a = self.expr(known, kind, a.get())?;
-                not(self.alloc(), a)
             }
-            RawExpr::Negative(a) => {
-                let a = self.expr(known, kind, a.get())?;
-                negative(self.alloc(), a)
+        }
+        RawCall::Route(word) => {
+            match checker.block_number(known, RouteKind::Route, word)? {
+                Some(block) => Ok(Some(Expr::Route(block))),
+                None => Ok(None),
             }
-            RawExpr::Chain(a, links) => {
-                let first = self.expr(known, kind, a.get())?;
-                let links = self.links(known, kind, links.as_slice())?;
-                chain(self.alloc(), first, links)
-            }
-            RawExpr::Matches(a, word) => {
-                let a = self.expr(known, kind, a.get())?;
-                let pattern = self.pattern_number(word.at, word.text.bytes())?;
-                matches(self.alloc(), a, pattern)
-            }
-            RawExpr::All(operands) => {
-                match self.exprs(known, kind, operands.as_slice())? {
-                    Some(operands) => Ok(Some(Expr::All(operands))),
-                    None => Ok(None),
-                }
-            }
-            RawExpr::Any(operands) => {
-                match self.exprs(known, kind, operands.as_slice())? {
-                    Some(operands) => Ok(Some(Expr::Any(operands))),
-                    None => Ok(None),
-                }
-            }
-            RawExpr::Myself(is) => Ok(Some(myself(self.alloc(), *is)?)),
         }
     }
+}
 
-    /// Operands, one after another.
-    #[tactic(auto, using(crate::proofs::Follows::each_item, crate::proofs::Follows::each_whole, crate::proofs::Follows::follows_each_none))]
-    #[cycle(exprs)]
-    fn exprs(
-        &mut self,
-        known: &Known,
-        kind: RouteKind,
-        operands: &[RawExpr],
-    ) -> Result<Option<Items<Expr>>, NoMemory>
-        ensures { IfOk result (λ v. Follows (each (map (checks.expr_in known.now kind) operands.now)) self.old v self.new) }
-    {
-        let mut all = Some(Items::new(self.alloc()));
-        for operand in operands {
-            let e = self.expr(known, kind, operand)?;
-            all = with_item(all, e)?;
+/// An expression, in a block of this kind.
+#[tactic(auto, using(cfg_calls::proofs::Follows::follows_one, cfg_calls::proofs::Follows::follows_both, cfg_calls::proofs::Follows::follows_accepted))]
+#[cycle(exprs)]
+pub fn expr(
+    checker: &mut Checker,
+    known: &Known,
+    kind: RouteKind,
+    e: &RawExpr,
+) -> Result<Option<Expr>, NoMemory>
+    ensures { IfOk result (λ v. Follows (checks.expr_in known.now kind e.now) checker.old v checker.new) }
+{
+    match e {
+        RawExpr::Number(n) => Ok(Some(Expr::Int(*n))),
+        RawExpr::String(word) => Ok(Some(Expr::Text(word.text.copy(checker.alloc())?))),
+        RawExpr::Variable(v) => match checker.variable(known, v)? {
+            Some(part) => Ok(Some(Expr::Read(part))),
+            None => Ok(None),
+        },
+        RawExpr::Call(call) => self::call(checker, known, kind, call),
+        RawExpr::Not(a) => {
+            let a = expr(checker, known, kind, a.get())?;
+            not(checker.alloc(), a)
         }
-        Ok(all)
+        RawExpr::Negative(a) => {
+            let a = expr(checker, known, kind, a.get())?;
+            negative(checker.alloc(), a)
+        }
+        RawExpr::Chain(a, links) => {
+            let first = expr(checker, known, kind, a.get())?;
+            let links = self::links(checker, known, kind, links.as_slice())?;
+            chain(checker.alloc(), first, links)
+        }
+        RawExpr::Matches(a, word) => {
+            let a = expr(checker, known, kind, a.get())?;
+            let pattern = checker.pattern_number(word.at, word.text.bytes())?;
+            matches(checker.alloc(), a, pattern)
+        }
+        RawExpr::All(operands) => {
+            match exprs(checker, known, kind, operands.as_slice())? {
+                Some(operands) => Ok(Some(Expr::All(operands))),
+                None => Ok(None),
+            }
+        }
+        RawExpr::Any(operands) => {
+            match exprs(checker, known, kind, operands.as_slice())? {
+                Some(operands) => Ok(Some(Expr::Any(operands))),
+                None => Ok(None),
+            }
+        }
+        RawExpr::Myself(is) => Ok(Some(myself(checker.alloc(), *is)?)),
     }
+}
 
-    /// Operands of a chain, each with the operator before it.
-    #[tactic(auto, using(crate::proofs::Follows::follows_one, crate::proofs::Follows::each_item, crate::proofs::Follows::each_whole, crate::proofs::Follows::follows_each_none))]
-    #[cycle(exprs)]
-    fn links(
-        &mut self,
-        known: &Known,
-        kind: RouteKind,
-        links: &[(BinOp, RawExpr)],
-    ) -> Result<Option<Items<(BinOp, Expr)>>, NoMemory>
-        ensures { IfOk result (λ v. Follows (each (map (λ l. one (λ e. (l.0, e)) (checks.expr_in known.now kind l.1)) links.now)) self.old v self.new) }
-    {
-        let mut all = Some(Items::new(self.alloc()));
-        for item in links {
-            let e = self.expr(known, kind, &item.1)?;
-            all = with_item(all, link(item.0, e))?;
-        }
-        Ok(all)
+/// Operands, one after another.
+#[tactic(auto, using(cfg_calls::proofs::Follows::each_item, cfg_calls::proofs::Follows::each_whole, cfg_calls::proofs::Follows::follows_each_none))]
+#[cycle(exprs)]
+fn exprs(
+    checker: &mut Checker,
+    known: &Known,
+    kind: RouteKind,
+    operands: &[RawExpr],
+) -> Result<Option<Items<Expr>>, NoMemory>
+    ensures { IfOk result (λ v. Follows (each (map (checks.expr_in known.now kind) operands.now)) checker.old v checker.new) }
+{
+    let mut all = Some(Items::new(checker.alloc()));
+    for operand in operands {
+        let e = expr(checker, known, kind, operand)?;
+        all = with_item(all, e)?;
     }
+    Ok(all)
+}
+
+/// Operands of a chain, each with the operator before it.
+#[tactic(auto, using(cfg_calls::proofs::Follows::follows_one, cfg_calls::proofs::Follows::each_item, cfg_calls::proofs::Follows::each_whole, cfg_calls::proofs::Follows::follows_each_none))]
+#[cycle(exprs)]
+fn links(
+    checker: &mut Checker,
+    known: &Known,
+    kind: RouteKind,
+    links: &[(BinOp, RawExpr)],
+) -> Result<Option<Items<(BinOp, Expr)>>, NoMemory>
+    ensures { IfOk result (λ v. Follows (each (map (λ l. one (λ e. (l.0, e)) (checks.expr_in known.now kind l.1)) links.now)) checker.old v checker.new) }
+{
+    let mut all = Some(Items::new(checker.alloc()));
+    for item in links {
+        let e = expr(checker, known, kind, &item.1)?;
+        all = with_item(all, link(item.0, e))?;
+    }
+    Ok(all)
 }

@@ -1,4 +1,4 @@
-// What the definitions of the check say together, proved from them alone.
+//! What the definitions of the check say together, proved from them alone.
 
 ghost use Rattle.std.specs.Prelude.{◌≡◌, [], Some};
 ghost use Rattle.cfg_tree.specs.declared.raw.RawScript.{RawScript};

@@ -10,35 +10,22 @@ ghost use Rattle.cfg_tree.specs.declared.script.Script.{Script};
 ghost use Rattle.cfg_tree.specs.Checks.{refusals_of, IsAccepted, IsRefused};
 ghost use Rattle.cfg_check.specs.Answer.{IsRefusalOf, GivesScript, GivesSome, GivesRefusal};
 
-mod argument;
 mod block;
-mod checker;
 mod expr;
-mod form;
-mod function;
-mod head;
-mod host;
-mod index;
-mod joins;
-mod known;
 pub mod laws;
 mod script;
 mod stmt;
 mod target;
-#[cfg(test)]
-mod tests;
-mod variable;
-mod vars;
 
-use cfg_tree::{RawScript, Script};
+use cfg_tree::{ClosedScript, RawScript};
 use pv_values::ScriptFault;
 use std::alloc::Global;
 
 /// The script that a tree stands for, or its first refusal: the one that begins first, and of those that begin at one
 /// byte the one of the least kind, 4 to 15.
 ///
-/// A script is given exactly where no check refuses; else the refusal is given, or memory is wanting.
-pub fn check(alloc: Global, raw: RawScript) -> Result<Script, ScriptFault>
+/// Every number in a script that is given names something that is there. A script is given exactly where no check refuses; else the refusal is given, or memory is wanting.
+pub fn check(alloc: Global, raw: RawScript) -> Result<ClosedScript, ScriptFault>
     ensures accepted { IfOk result (IsAccepted raw) }
     ensures refused { IfErr result (IsRefusalOf raw) }
     ensures whole { (script : Script) → IsAccepted raw script → GivesScript script result }

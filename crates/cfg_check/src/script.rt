@@ -1,4 +1,4 @@
-// A script: the check of a whole tree.
+//! A script: the check of a whole tree.
 
 ghost use Rattle.std.specs.Prelude.{◌≡◌, ◌++◌, [], None, IfSome, IfNone, IfOk, OnOk, position};
 ghost use Rattle.cfg_tree.specs.declared.raw.RawScript.{RawScript};
@@ -8,11 +8,11 @@ ghost use Rattle.cfg_tree.specs.declared.raw.RouteKind.TheVariants.{Begins};
 ghost use Rattle.cfg_tree.specs.Functions.{is_same_block};
 ghost use Rattle.cfg_check.specs.Reading.{IsRead, IsJudged};
 
-use crate::block::blocks_in;
-use crate::checker::{Checker, number};
-use crate::known::Known;
+use crate::block::{blocks_in, bodies};
+use cfg_calls::{Checker, Known, number};
 use cfg_settings::{Kind, Refusal, Settings, settings_in};
-use cfg_tree::{RawScript, RouteKind, Script, Stmt};
+use cfg_tree::laws::an_accepted_script_is_closed;
+use cfg_tree::{ClosedScript, RawScript, RouteKind, Script, Stmt};
 use pv_values::{BlockKind, PatternText, Patterns, Place};
 use sqlite_items::Items;
 use std::alloc::{AllocError as NoMemory, Global};
@@ -83,7 +83,7 @@ fn read_tree(alloc: Global, raw: &RawScript) -> Result<Read, NoMemory>
     let blocks = blocks_in(alloc, items, &mut refusals)?;
     let known = Known::new(blocks, settings.table_names(alloc)?);
     let mut checker = Checker::new(alloc, refusals);
-    let blocks = checker.bodies(&known, items)?;
+    let blocks = bodies(&mut checker, &known, items)?;
     let request = unnamed(&known, BlockKind::Request)?;
     refuse_without_request(&mut checker, raw, request)?;
     let reply = unnamed(&known, BlockKind::Reply)?;
@@ -147,16 +147,17 @@ fn built_script(alloc: Global, read: Read) -> Result<Option<Script>, NoMemory>
     script_of(alloc, read, patterns)
 }
 
-/// The script that a tree stands for, or its first refusal.
-pub fn judged(alloc: Global, raw: &RawScript) -> Result<Result<Script, Refusal>, NoMemory>
+/// The script that a tree stands for, which is closed, or its first refusal.
+pub fn judged(alloc: Global, raw: &RawScript) -> Result<Result<ClosedScript, Refusal>, NoMemory>
     ensures { IfOk result (IsJudged raw.now) }
 {
+    an_accepted_script_is_closed();
     let read = read_tree(alloc, raw)?;
     if let Some(first) = first_refusal(read.refusals.as_slice()) {
         return Ok(Err(first.copy()));
     }
     match built_script(alloc, read)? {
-        Some(script) => Ok(Ok(script)),
+        Some(script) => Ok(Ok(ClosedScript::new(script))),
         // A tree of which nothing is refused stands for a script.
         None => unreachable!(),
     }

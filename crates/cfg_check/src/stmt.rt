@@ -1,4 +1,4 @@
-// Statements.
+//! Statements.
 
 ghost use Rattle.std.specs.Prelude.{◌≡◌, ◌∷◌, [], IfOk, map, option_map};
 ghost use Rattle.cfg_tree.specs.Checks.{stmt_step, stmt_in, all_in, maybe, maybe_expr, numbered};
@@ -6,12 +6,11 @@ ghost use Rattle.cfg_tree.specs.Refusals.{accepted, join};
 ghost use Rattle.cfg_tree.specs.declared.script.Stmt.TheOpen.{Stmt-F};
 ghost use Rattle.cfg_tree.specs.declared.script.Stmt.TheViews.{roll-Stmt};
 ghost use Rattle.cfg_tree.specs.declared.raw.RawStmt.TheOpen.{RawStmt-F};
-ghost use Rattle.cfg_check.specs.Following.{Follows, within_limit};
+ghost use Rattle.cfg_calls.specs.Following.{Follows, within_limit};
 ghost use Rattle.cfg_check.specs.Cases.{Begins, case_in, cases_in};
 
-use crate::checker::Checker;
-use crate::joins::{self, with_item, with_items};
-use crate::known::Known;
+use crate::{expr, target};
+use cfg_calls::{Checker, Known, one, with_item, with_items};
 use cfg_tree::{Expr, RawCall, RawExpr, RawStmt, RawVariable, RouteKind, Stmt, Target};
 use pv_values::{Place, Val};
 use sqlite_items::{Boxed, Items};
@@ -29,7 +28,7 @@ fn single(alloc: Global, stmt: Option<Stmt>) -> Result<Option<Items<Stmt>>, NoMe
     ensures { IfOk result (λ r. r ≡ option_map (λ s. s ∷ []) stmt) }
 {
     match stmt {
-        Some(stmt) => Ok(Some(joins::one(alloc, stmt)?)),
+        Some(stmt) => Ok(Some(one(alloc, stmt)?)),
         None => Ok(None),
     }
 }
@@ -106,256 +105,254 @@ fn labelled(
     }
 }
 
-impl Checker {
-    /// `VAR = e;`
-    fn assigned(
-        &mut self,
-        known: &Known,
-        kind: RouteKind,
-        at: Place,
-        v: &RawVariable,
-        e: &RawExpr,
-    ) -> Result<Option<Items<Stmt>>, NoMemory>
-        ensures { IfOk result (λ r. Follows (stmt_step known.now kind (RawStmt-F.Set at v.now e.now)) self.old r self.new) }
-    {
-        let within = self.count(at)?;
-        let target = self.target(known, kind, v)?;
-        let value = self.expr(known, kind, e)?;
-        alone(self.alloc(), within, assignment(target, value))
-    }
+/// `VAR = e;`
+fn assigned(
+    checker: &mut Checker,
+    known: &Known,
+    kind: RouteKind,
+    at: Place,
+    v: &RawVariable,
+    e: &RawExpr,
+) -> Result<Option<Items<Stmt>>, NoMemory>
+    ensures { IfOk result (λ r. Follows (stmt_step known.now kind (RawStmt-F.Set at v.now e.now)) checker.old r checker.new) }
+{
+    let within = checker.count(at)?;
+    let target = target::target_of(checker, known, kind, v)?;
+    let value = expr::expr(checker, known, kind, e)?;
+    alone(checker.alloc(), within, assignment(target, value))
+}
 
-    /// A call as a statement.
-    fn called(
-        &mut self,
-        known: &Known,
-        kind: RouteKind,
-        at: Place,
-        call: &RawCall,
-    ) -> Result<Option<Items<Stmt>>, NoMemory>
-        ensures { IfOk result (λ r. Follows (stmt_step known.now kind (RawStmt-F.Do at call.now)) self.old r self.new) }
-    {
-        let within = self.count(at)?;
-        let call = self.call(known, kind, call)?;
-        alone(self.alloc(), within, call_alone(call))
-    }
+/// A call as a statement.
+fn called(
+    checker: &mut Checker,
+    known: &Known,
+    kind: RouteKind,
+    at: Place,
+    call: &RawCall,
+) -> Result<Option<Items<Stmt>>, NoMemory>
+    ensures { IfOk result (λ r. Follows (stmt_step known.now kind (RawStmt-F.Do at call.now)) checker.old r checker.new) }
+{
+    let within = checker.count(at)?;
+    let call = expr::call(checker, known, kind, call)?;
+    alone(checker.alloc(), within, call_alone(call))
+}
 
-    /// The value behind `return`, where there is one.
-    fn maybe_expr(
-        &mut self,
-        known: &Known,
-        kind: RouteKind,
-        e: &Option<RawExpr>,
-    ) -> Result<Option<Option<Expr>>, NoMemory>
-        ensures { IfOk result (λ r. Follows (maybe_expr known.now kind e.now) self.old r self.new) }
-    {
-        match e {
-            None => Ok(Some(None)),
-            Some(e) => match self.expr(known, kind, e)? {
-                Some(e) => Ok(Some(Some(e))),
-                None => Ok(None),
-            },
+/// The value behind `return`, where there is one.
+fn maybe_expr(
+    checker: &mut Checker,
+    known: &Known,
+    kind: RouteKind,
+    e: &Option<RawExpr>,
+) -> Result<Option<Option<Expr>>, NoMemory>
+    ensures { IfOk result (λ r. Follows (maybe_expr known.now kind e.now) checker.old r checker.new) }
+{
+    match e {
+        None => Ok(Some(None)),
+        Some(e) => match expr::expr(checker, known, kind, e)? {
+            Some(e) => Ok(Some(Some(e))),
+            None => Ok(None),
+        },
+    }
+}
+
+/// `return e;`, or `return;`
+fn returned(
+    checker: &mut Checker,
+    known: &Known,
+    kind: RouteKind,
+    at: Place,
+    e: &Option<RawExpr>,
+) -> Result<Option<Items<Stmt>>, NoMemory>
+    ensures { IfOk result (λ r. Follows (stmt_step known.now kind (RawStmt-F.Return at e.now)) checker.old r checker.new) }
+{
+    let within = checker.count(at)?;
+    let value = maybe_expr(checker, known, kind, e)?;
+    alone(checker.alloc(), within, returning(value))
+}
+
+/// `exit;`
+fn exit(checker: &mut Checker, at: Place) -> Result<Option<Items<Stmt>>, NoMemory>
+    ensures { IfOk result (λ r. Follows (numbered at (accepted (Stmt.Exit ∷ []))) checker.old r checker.new) }
+{
+    let within = checker.count(at)?;
+    alone(checker.alloc(), within, Some(Stmt::Exit))
+}
+
+/// `drop;`
+fn dropped(checker: &mut Checker, at: Place) -> Result<Option<Items<Stmt>>, NoMemory>
+    ensures { IfOk result (λ r. Follows (numbered at (accepted (Stmt.Drop ∷ []))) checker.old r checker.new) }
+{
+    let within = checker.count(at)?;
+    alone(checker.alloc(), within, Some(Stmt::Drop))
+}
+
+/// `break;`
+fn broken(checker: &mut Checker, at: Place) -> Result<Option<Items<Stmt>>, NoMemory>
+    ensures { IfOk result (λ r. Follows (numbered at (accepted (Stmt.Break ∷ []))) checker.old r checker.new) }
+{
+    let within = checker.count(at)?;
+    alone(checker.alloc(), within, Some(Stmt::Break))
+}
+
+/// `;`
+fn empty(checker: &mut Checker, at: Place) -> Result<Option<Items<Stmt>>, NoMemory>
+    ensures { IfOk result (λ r. Follows (numbered at (accepted [])) checker.old r checker.new) }
+{
+    let within = checker.count(at)?;
+    let nothing = Items::new(checker.alloc());
+    Ok(where_within(within, Some(nothing)))
+}
+
+/// What an expression and a statement behind it begin: the one that they stand in is counted first.
+#[cycle(stmts)]
+fn with_stmt(
+    checker: &mut Checker,
+    known: &Known,
+    kind: RouteKind,
+    s: &RawStmt,
+    at: Place,
+    e: &RawExpr,
+) -> Result<Option<(Expr, Items<Stmt>)>, NoMemory>
+    ensures { IfOk result (λ r. Begins known.now kind at e.now (stmt_in known.now kind s.now) checker.old r checker.new) }
+{
+    let within = checker.count(at)?;
+    let value = expr::expr(checker, known, kind, e)?;
+    let stmts = stmt(checker, known, kind, s)?;
+    Ok(where_within(within, pair(value, stmts)))
+}
+
+/// What an expression and the cases behind it begin: the statement that they stand in is counted first.
+#[cycle(stmts)]
+fn with_cases(
+    checker: &mut Checker,
+    known: &Known,
+    kind: RouteKind,
+    cases: &[(Val, Items<RawStmt>)],
+    at: Place,
+    e: &RawExpr,
+) -> Result<Option<(Expr, Items<(Val, Items<Stmt>)>)>, NoMemory>
+    ensures { IfOk result (λ r. Begins known.now kind at e.now (cases_in known.now kind cases.now) checker.old r checker.new) }
+{
+    let within = checker.count(at)?;
+    let value = expr::expr(checker, known, kind, e)?;
+    let cases = self::cases(checker, known, kind, cases)?;
+    Ok(where_within(within, pair(value, cases)))
+}
+
+/// `{ .. }`
+#[cycle(stmts)]
+fn grouped(
+    checker: &mut Checker,
+    known: &Known,
+    kind: RouteKind,
+    stmts: &[RawStmt],
+    at: Place,
+) -> Result<Option<Items<Stmt>>, NoMemory>
+    ensures { IfOk result (λ r. Follows (numbered at (all_in (map (stmt_in known.now kind) stmts.now))) checker.old r checker.new) }
+{
+    let within = checker.count(at)?;
+    let stmts = self::stmts(checker, known, kind, stmts)?;
+    Ok(where_within(within, stmts))
+}
+
+/// A statement, in a block of this kind.
+#[cycle(stmts)]
+fn stmt(
+    checker: &mut Checker,
+    known: &Known,
+    kind: RouteKind,
+    s: &RawStmt,
+) -> Result<Option<Items<Stmt>>, NoMemory>
+    ensures { IfOk result (λ r. Follows (stmt_in known.now kind s.now) checker.old r checker.new) }
+{
+    match s {
+        RawStmt::If(at, e, first, other) => {
+            let begun = with_stmt(checker, known, kind, first.get(), *at, e)?;
+            let other = otherwise(checker, known, kind, other)?;
+            single(checker.alloc(), choice(begun, other))
         }
-    }
-
-    /// `return e;`, or `return;`
-    fn returned(
-        &mut self,
-        known: &Known,
-        kind: RouteKind,
-        at: Place,
-        e: &Option<RawExpr>,
-    ) -> Result<Option<Items<Stmt>>, NoMemory>
-        ensures { IfOk result (λ r. Follows (stmt_step known.now kind (RawStmt-F.Return at e.now)) self.old r self.new) }
-    {
-        let within = self.count(at)?;
-        let value = self.maybe_expr(known, kind, e)?;
-        alone(self.alloc(), within, returning(value))
-    }
-
-    /// `exit;`
-    fn exit(&mut self, at: Place) -> Result<Option<Items<Stmt>>, NoMemory>
-        ensures { IfOk result (λ r. Follows (numbered at (accepted (Stmt.Exit ∷ []))) self.old r self.new) }
-    {
-        let within = self.count(at)?;
-        alone(self.alloc(), within, Some(Stmt::Exit))
-    }
-
-    /// `drop;`
-    fn dropped(&mut self, at: Place) -> Result<Option<Items<Stmt>>, NoMemory>
-        ensures { IfOk result (λ r. Follows (numbered at (accepted (Stmt.Drop ∷ []))) self.old r self.new) }
-    {
-        let within = self.count(at)?;
-        alone(self.alloc(), within, Some(Stmt::Drop))
-    }
-
-    /// `break;`
-    fn broken(&mut self, at: Place) -> Result<Option<Items<Stmt>>, NoMemory>
-        ensures { IfOk result (λ r. Follows (numbered at (accepted (Stmt.Break ∷ []))) self.old r self.new) }
-    {
-        let within = self.count(at)?;
-        alone(self.alloc(), within, Some(Stmt::Break))
-    }
-
-    /// `;`
-    fn empty(&mut self, at: Place) -> Result<Option<Items<Stmt>>, NoMemory>
-        ensures { IfOk result (λ r. Follows (numbered at (accepted [])) self.old r self.new) }
-    {
-        let within = self.count(at)?;
-        let nothing = Items::new(self.alloc());
-        Ok(where_within(within, Some(nothing)))
-    }
-
-    /// What an expression and a statement behind it begin: the one that they stand in is counted first.
-    #[cycle(stmts)]
-    fn with_stmt(
-        &mut self,
-        known: &Known,
-        kind: RouteKind,
-        s: &RawStmt,
-        at: Place,
-        e: &RawExpr,
-    ) -> Result<Option<(Expr, Items<Stmt>)>, NoMemory>
-        ensures { IfOk result (λ r. Begins known.now kind at e.now (stmt_in known.now kind s.now) self.old r self.new) }
-    {
-        let within = self.count(at)?;
-        let value = self.expr(known, kind, e)?;
-        let stmts = self.stmt(known, kind, s)?;
-        Ok(where_within(within, pair(value, stmts)))
-    }
-
-    /// What an expression and the cases behind it begin: the statement that they stand in is counted first.
-    #[cycle(stmts)]
-    fn with_cases(
-        &mut self,
-        known: &Known,
-        kind: RouteKind,
-        cases: &[(Val, Items<RawStmt>)],
-        at: Place,
-        e: &RawExpr,
-    ) -> Result<Option<(Expr, Items<(Val, Items<Stmt>)>)>, NoMemory>
-        ensures { IfOk result (λ r. Begins known.now kind at e.now (cases_in known.now kind cases.now) self.old r self.new) }
-    {
-        let within = self.count(at)?;
-        let value = self.expr(known, kind, e)?;
-        let cases = self.cases(known, kind, cases)?;
-        Ok(where_within(within, pair(value, cases)))
-    }
-
-    /// `{ .. }`
-    #[cycle(stmts)]
-    fn grouped(
-        &mut self,
-        known: &Known,
-        kind: RouteKind,
-        stmts: &[RawStmt],
-        at: Place,
-    ) -> Result<Option<Items<Stmt>>, NoMemory>
-        ensures { IfOk result (λ r. Follows (numbered at (all_in (map (stmt_in known.now kind) stmts.now))) self.old r self.new) }
-    {
-        let within = self.count(at)?;
-        let stmts = self.stmts(known, kind, stmts)?;
-        Ok(where_within(within, stmts))
-    }
-
-    /// A statement, in a block of this kind.
-    #[cycle(stmts)]
-    fn stmt(
-        &mut self,
-        known: &Known,
-        kind: RouteKind,
-        s: &RawStmt,
-    ) -> Result<Option<Items<Stmt>>, NoMemory>
-        ensures { IfOk result (λ r. Follows (stmt_in known.now kind s.now) self.old r self.new) }
-    {
-        match s {
-            RawStmt::If(at, e, first, other) => {
-                let begun = self.with_stmt(known, kind, first.get(), *at, e)?;
-                let other = self.otherwise(known, kind, other)?;
-                single(self.alloc(), choice(begun, other))
-            }
-            RawStmt::While(at, e, body) => {
-                let begun = self.with_stmt(known, kind, body.get(), *at, e)?;
-                single(self.alloc(), repetition(begun))
-            }
-            RawStmt::Switch(at, e, cases, default) => {
-                let begun = self.with_cases(known, kind, cases.as_slice(), *at, e)?;
-                let default = self.stmts(known, kind, default.as_slice())?;
-                single(self.alloc(), selection(begun, default))
-            }
-            RawStmt::Set(at, v, e) => self.assigned(known, kind, *at, v, e),
-            RawStmt::Do(at, call) => self.called(known, kind, *at, call),
-            RawStmt::Return(at, e) => self.returned(known, kind, *at, e),
-            RawStmt::Exit(at) => self.exit(*at),
-            RawStmt::Drop(at) => self.dropped(*at),
-            RawStmt::Break(at) => self.broken(*at),
-            RawStmt::Group(at, stmts) => self.grouped(known, kind, stmts.as_slice(), *at),
-            RawStmt::Empty(at) => self.empty(*at),
+        RawStmt::While(at, e, body) => {
+            let begun = with_stmt(checker, known, kind, body.get(), *at, e)?;
+            single(checker.alloc(), repetition(begun))
         }
-    }
-
-    /// `else` and its statement, or nothing.
-    #[cycle(stmts)]
-    fn otherwise(
-        &mut self,
-        known: &Known,
-        kind: RouteKind,
-        other: &Option<Boxed<RawStmt>>,
-    ) -> Result<Option<Items<Stmt>>, NoMemory>
-        ensures { IfOk result (λ r. Follows (maybe (option_map (stmt_in known.now kind) other.now)) self.old r self.new) }
-    {
-        match other {
-            Some(s) => self.stmt(known, kind, s.get()),
-            None => Ok(Some(Items::new(self.alloc()))),
+        RawStmt::Switch(at, e, cases, default) => {
+            let begun = with_cases(checker, known, kind, cases.as_slice(), *at, e)?;
+            let default = self::stmts(checker, known, kind, default.as_slice())?;
+            single(checker.alloc(), selection(begun, default))
         }
+        RawStmt::Set(at, v, e) => assigned(checker, known, kind, *at, v, e),
+        RawStmt::Do(at, call) => called(checker, known, kind, *at, call),
+        RawStmt::Return(at, e) => returned(checker, known, kind, *at, e),
+        RawStmt::Exit(at) => exit(checker, *at),
+        RawStmt::Drop(at) => dropped(checker, *at),
+        RawStmt::Break(at) => broken(checker, *at),
+        RawStmt::Group(at, stmts) => grouped(checker, known, kind, stmts.as_slice(), *at),
+        RawStmt::Empty(at) => empty(checker, *at),
     }
+}
 
-    /// Statements, one after another.
-    #[cycle(stmts)]
-    pub fn stmts(
-        &mut self,
-        known: &Known,
-        kind: RouteKind,
-        stmts: &[RawStmt],
-    ) -> Result<Option<Items<Stmt>>, NoMemory>
-        ensures { IfOk result (λ r. Follows (all_in (map (stmt_in known.now kind) stmts.now)) self.old r self.new) }
-    {
-        let mut all = Some(Items::new(self.alloc()));
-        for s in stmts {
-            let more = self.stmt(known, kind, s)?;
-            all = with_items(all, more)?;
-        }
-        Ok(all)
+/// `else` and its statement, or nothing.
+#[cycle(stmts)]
+fn otherwise(
+    checker: &mut Checker,
+    known: &Known,
+    kind: RouteKind,
+    other: &Option<Boxed<RawStmt>>,
+) -> Result<Option<Items<Stmt>>, NoMemory>
+    ensures { IfOk result (λ r. Follows (maybe (option_map (stmt_in known.now kind) other.now)) checker.old r checker.new) }
+{
+    match other {
+        Some(s) => stmt(checker, known, kind, s.get()),
+        None => Ok(Some(Items::new(checker.alloc()))),
     }
+}
 
-    /// The cases of a `switch`.
-    #[cycle(stmts)]
-    fn cases(
-        &mut self,
-        known: &Known,
-        kind: RouteKind,
-        cases: &[(Val, Items<RawStmt>)],
-    ) -> Result<Option<Items<(Val, Items<Stmt>)>>, NoMemory>
-        ensures { IfOk result (λ r. Follows (cases_in known.now kind cases.now) self.old r self.new) }
-    {
-        let mut all = Some(Items::new(self.alloc()));
-        for item in cases {
-            let one = self.case(known, kind, item)?;
-            all = with_item(all, one)?;
-        }
-        Ok(all)
+/// Statements, one after another.
+#[cycle(stmts)]
+pub fn stmts(
+    checker: &mut Checker,
+    known: &Known,
+    kind: RouteKind,
+    stmts: &[RawStmt],
+) -> Result<Option<Items<Stmt>>, NoMemory>
+    ensures { IfOk result (λ r. Follows (all_in (map (stmt_in known.now kind) stmts.now)) checker.old r checker.new) }
+{
+    let mut all = Some(Items::new(checker.alloc()));
+    for s in stmts {
+        let more = stmt(checker, known, kind, s)?;
+        all = with_items(all, more)?;
     }
+    Ok(all)
+}
 
-    /// A case with its label.
-    #[cycle(stmts)]
-    fn case(
-        &mut self,
-        known: &Known,
-        kind: RouteKind,
-        item: &(Val, Items<RawStmt>),
-    ) -> Result<Option<(Val, Items<Stmt>)>, NoMemory>
-        ensures { IfOk result (λ r. Follows (case_in known.now kind item.now) self.old r self.new) }
-    {
-        let body = self.stmts(known, kind, item.1.as_slice())?;
-        labelled(self.alloc(), &item.0, body)
+/// The cases of a `switch`.
+#[cycle(stmts)]
+fn cases(
+    checker: &mut Checker,
+    known: &Known,
+    kind: RouteKind,
+    cases: &[(Val, Items<RawStmt>)],
+) -> Result<Option<Items<(Val, Items<Stmt>)>>, NoMemory>
+    ensures { IfOk result (λ r. Follows (cases_in known.now kind cases.now) checker.old r checker.new) }
+{
+    let mut all = Some(Items::new(checker.alloc()));
+    for item in cases {
+        let one = case(checker, known, kind, item)?;
+        all = with_item(all, one)?;
     }
+    Ok(all)
+}
+
+/// A case with its label.
+#[cycle(stmts)]
+fn case(
+    checker: &mut Checker,
+    known: &Known,
+    kind: RouteKind,
+    item: &(Val, Items<RawStmt>),
+) -> Result<Option<(Val, Items<Stmt>)>, NoMemory>
+    ensures { IfOk result (λ r. Follows (case_in known.now kind item.now) checker.old r checker.new) }
+{
+    let body = self::stmts(checker, known, kind, item.1.as_slice())?;
+    labelled(checker.alloc(), &item.0, body)
 }

@@ -1,14 +1,13 @@
-// What assignments write.
+//! What assignments write.
 
 ghost use Rattle.std.specs.Prelude.{◌≡◌, [], IfOk};
 ghost use Rattle.cfg_tree.specs.Checks as checks;
 ghost use Rattle.cfg_tree.specs.declared.raw.RouteKind.TheVariants.{Route};
 ghost use Rattle.cfg_tree.specs.declared.script.Part.TheViews.{out-Part};
 ghost use Rattle.cfg_tree.specs.Meaning.{item_of};
-ghost use Rattle.cfg_check.specs.Following.{Follows};
+ghost use Rattle.cfg_calls.specs.Following.{Follows};
 
-use crate::checker::Checker;
-use crate::known::Known;
+use cfg_calls::{Checker, Known};
 use cfg_settings::Kind;
 use cfg_tree::{Part, RawVariable, RouteKind, TableUse, Target};
 use pv_values::{BlockKind, Key, PvUse, Text};
@@ -74,22 +73,20 @@ fn target(alloc: Global, kind: RouteKind, part: Part) -> Option<Target>
     }
 }
 
-impl Checker {
-    /// What an assignment to a variable writes, in a block of this kind.
-    pub fn target(
-        &mut self,
-        known: &Known,
-        kind: RouteKind,
-        v: &RawVariable,
-    ) -> Result<Option<Target>, NoMemory>
-        ensures { IfOk result (λ t. Follows (checks.target_of known.now kind v.now) self.old t self.new) }
-    {
-        let Some(part) = self.variable(known, v)? else {
-            return Ok(None);
-        };
-        match target(self.alloc(), kind, part) {
-            Some(target) => Ok(Some(target)),
-            None => self.refuse(Kind::NotWritable, v.at),
-        }
+/// What an assignment to a variable writes, in a block of this kind.
+pub fn target_of(
+    checker: &mut Checker,
+    known: &Known,
+    kind: RouteKind,
+    v: &RawVariable,
+) -> Result<Option<Target>, NoMemory>
+    ensures { IfOk result (λ t. Follows (checks.target_of known.now kind v.now) checker.old t checker.new) }
+{
+    let Some(part) = checker.variable(known, v)? else {
+        return Ok(None);
+    };
+    match target(checker.alloc(), kind, part) {
+        Some(target) => Ok(Some(target)),
+        None => checker.refuse(Kind::NotWritable, v.at),
     }
 }

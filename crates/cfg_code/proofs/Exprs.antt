@@ -14,7 +14,7 @@ use Rattle.cfg_tree.specs.declared.script.Expr.TheFolds.{fold-roll-Expr, ind-Exp
 use Rattle.cfg_tree.specs.declared.script.Script.{Script}
 use Rattle.cfg_tree.specs.Meaning.{RunTalk, State, WithValue, WithCode, Valued, Wanted, AsValue, AsTruth, Meant, Routes, put_code, settle, coded, called, linked, all_true, any_true, matched, expr_step, expr_of}
 use Rattle.cfg_code.specs.declared.instr.Instr.TheVariants.{Push, LoadCode, LoadSuccess, CallFunction, ExitOnZero, CallBlock, Binary, Negate, Not, ToBool, Match, JumpIfFalseOrPop, JumpIfTrueOrPop}
-use Rattle.cfg_code.specs.declared.code.Loaded.{Loaded}
+use Rattle.cfg_code.specs.Flat.{FlatScript}
 use Rattle.cfg_code.specs.declared.machine.Frame.{Frame}
 use Rattle.cfg_code.specs.declared.machine.Wait.TheVariants as wait
 use Rattle.cfg_code.specs.Code.{Text, called_text, arguments_code, link_text, links_text, and_text, ands_text, or_text, ors_text, expr_text, expr_code}
@@ -23,7 +23,7 @@ use Rattle.cfg_code.specs.Follows.{HasAt, Behaves}
 use Rattle.cfg_code.proofs.Places.{has_front, has_back, run_with, run_at, by_act, asked_behind, at_place, count_right, Each, Right, change_right}
 use Rattle.cfg_code.proofs.Parts.{part_right, arguments_right}
 
-module _ (loaded : Loaded) (d : ℕ) where
+module _ (loaded : FlatScript) (d : ℕ) where
   -- what is wanted of an expression
   abbrev pub RightMeant : (Wanted → Text) → Meant → Type 0
   RightMeant t m = (w : Wanted) → Right loaded d [] (t w) (m w)

@@ -4,3 +4,4 @@ pub mod Exprs
 pub mod Stmts
 pub mod Shapes
 pub mod Safety
+pub mod Closes

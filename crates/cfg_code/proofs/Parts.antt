@@ -12,7 +12,7 @@ use Rattle.cfg_tree.specs.declared.script.Part.TheViews.{roll-Part}
 use Rattle.cfg_tree.specs.declared.script.Part.TheFolds.{fold-roll-Part, ind-Part, map-Part}
 use Rattle.cfg_tree.specs.Meaning.{State, WithText, WithValues, Valued, item_of, texts_behind, expanded, read_host, part_step, part_of, expansion_of, arguments_behind}
 use Rattle.cfg_code.specs.declared.instr.Instr.TheVariants.{Push, Load, LoadCode, Read, ReadItem, Transform, Concat, PushArgument}
-use Rattle.cfg_code.specs.declared.code.Loaded.{Loaded}
+use Rattle.cfg_code.specs.Flat.{FlatScript}
 use Rattle.cfg_code.specs.declared.machine.Frame.{Frame}
 use Rattle.cfg_code.specs.declared.machine.Wait.TheVariants as wait
 use Rattle.cfg_code.specs.Code.{Text, concat_text, concats, expansion_text, part_text, part_code, expansion_code, argument_text, arguments_code}
@@ -31,7 +31,7 @@ sum_of_limited front v = elim (cases_Bool (nat_le (length front) 8192)) [
       rw (f, g) refl
 ]
 
-module _ (loaded : Loaded) (d : ℕ) where
+module _ (loaded : FlatScript) (d : ℕ) where
   abbrev pub RightPart : Text → Valued → Type 0
   RightPart text m = (args : List Val) → Right loaded d args text m
 

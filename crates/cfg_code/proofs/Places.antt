@@ -10,7 +10,7 @@ use Rattle.pv_values.specs.declared.run.HostAnswer.{HostAnswer}
 use Rattle.cfg_tree.specs.Meaning.{RunTalk, State, WithValue, Valued, counted, counted_from}
 use Rattle.cfg_code.specs.declared.instr.Instr.{Instr}
 use Rattle.cfg_code.specs.declared.instr.Instr.TheVariants.{CountStatement}
-use Rattle.cfg_code.specs.declared.code.Loaded.{Loaded}
+use Rattle.cfg_code.specs.Flat.{FlatScript}
 use Rattle.cfg_code.specs.declared.machine.Frame.{Frame}
 use Rattle.cfg_code.specs.declared.machine.Wait.TheVariants as wait
 use Rattle.cfg_code.specs.declared.machine.Event.{Event}
@@ -53,7 +53,7 @@ Each R [] (b ∷ bs) = ⊥
 Each R (a ∷ more) [] = ⊥
 Each R (a ∷ more) (b ∷ bs) = R a b × Each R more bs
 
-module _ (loaded : Loaded) where
+module _ (loaded : FlatScript) where
   -- what has to hold after an instruction, for the dialogue before it
   abbrev pub AfterEvent : Event → Configuration → RunTalk → Type 0
   AfterEvent Moved r t = Behaves loaded r t

@@ -9,7 +9,7 @@ use Rattle.pv_values.specs.declared.run.HostAnswer.{HostAnswer}
 use Rattle.pv_values.specs.Values.{is_true, same as is_label}
 use Rattle.cfg_code.specs.declared.instr.Instr.{Instr}
 use Rattle.cfg_code.specs.declared.instr.Instr.TheVariants.{Push, Load, LoadCode, LoadSuccess, Store, Read, ReadItem, Write, WriteItem, Transform, Concat, PushArgument, CallFunction, ExitOnZero, CallBlock, Binary, Negate, Not, ToBool, Match, JumpIfFalseOrPop, JumpIfTrueOrPop, Pop, CountStatement, JumpIfFalse, Jump, Case, BeginLoop, BeginRound, LoopBack, EndLoop, Break, Return, Exit, Drop, EndBlock}
-use Rattle.cfg_code.specs.declared.code.Loaded.{Loaded}
+use Rattle.cfg_code.specs.Flat.{FlatScript}
 use Rattle.cfg_code.specs.declared.machine.Frame.{Frame}
 use Rattle.cfg_code.specs.declared.machine.Frame.TheVariants.{Loop, Back}
 use Rattle.cfg_code.specs.declared.machine.Wait.TheVariants as wait
@@ -56,7 +56,7 @@ stands (x ∷ code) [] p s fine f = absurd fine
 stands (x ∷ code) (y ∷ shapes) zero s fine f = (x, refl)
 stands (x ∷ code) (y ∷ shapes) (suc p) s fine f = stands code shapes p s fine.1 f
 
-module _ (loaded : Loaded) (shapes : List Shape) (sound : IsSound loaded.code shapes) where
+module _ (loaded : FlatScript) (shapes : List Shape) (sound : IsSound loaded.code shapes) where
   -- the open loops of a block, and the blocks that wait, with the values below those of the block
   abbrev Framed : ℕ → ℕ → List Frame → Type 0
   Framed l base [] = l ≡ 0
@@ -251,5 +251,5 @@ module _ (loaded : Loaded) (shapes : List Shape) (sound : IsSound loaded.code sh
   never : (block : ℕ) (env : Env) (r : Configuration) → Reaches loaded (begun loaded block env) r → (step_of loaded r).event ≡ Stuck → ⊥
   never block env r reaches e = subst (λ e. OkayEvent e (step_of loaded r).run) e (step_okay r (reached_fit (begun loaded block env) r (begun_fit block env) reaches))
 
-pub never_stuck : (loaded : Loaded) → AllSound loaded.code.instrs loaded.code.entries → (block : ℕ) (env : Env) (r : Configuration) → Reaches loaded (begun loaded block env) r → (step_of loaded r).event ≢ Stuck
+pub never_stuck : (loaded : FlatScript) → AllSound loaded.code.instrs loaded.code.entries → (block : ℕ) (env : Env) (r : Configuration) → Reaches loaded (begun loaded block env) r → (step_of loaded r).event ≢ Stuck
 never_stuck loaded sound block env r reaches e = ∥∥₁_elim sound.shapes (λ x y. absurd x) (λ h. never loaded h.0 h.1 block env r reaches e)

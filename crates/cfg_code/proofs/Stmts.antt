@@ -19,7 +19,7 @@ use Rattle.cfg_tree.specs.declared.script.Script.{Script}
 use Rattle.cfg_tree.specs.Meaning.{RunTalk, State, Valued, AsValue, AsTruth, Routes, put_var, ends, counted, item_of, expansion_of, expr_of, Ways, Made, in_order, rounds, onward, chosen, write_host, assigned, returned, stmt_step, stmt_of, block_of, block_at, routes_to, end_of, max_statements, dialogue}
 use Rattle.cfg_code.specs.declared.instr.Instr.{Instr}
 use Rattle.cfg_code.specs.declared.instr.Instr.TheVariants.{Push, Store, Write, WriteItem, CallBlock, Pop, CountStatement, JumpIfFalse, Jump, Case, BeginLoop, BeginRound, LoopBack, EndLoop, Break, Return, Exit, Drop, EndBlock}
-use Rattle.cfg_code.specs.declared.code.Loaded.{Loaded}
+use Rattle.cfg_code.specs.Flat.{FlatScript}
 use Rattle.cfg_code.specs.declared.machine.Frame.{Frame}
 use Rattle.cfg_code.specs.declared.machine.Frame.TheVariants.{Loop, Back}
 use Rattle.cfg_code.specs.declared.machine.Wait.TheVariants as wait
@@ -30,7 +30,7 @@ use Rattle.cfg_code.proofs.Places.{has_front, has_back, run_at, After, by_act, a
 use Rattle.cfg_code.proofs.Parts.{expansion_right}
 use Rattle.cfg_code.proofs.Exprs.{RightMeant, RightRoute, expr_right}
 
-module _ (loaded : Loaded) where
+module _ (loaded : FlatScript) where
   -- what the machine does at the three ways on from a statement
   pub record RightWays (d p : ℕ) (stack : List Val) (frames : List Frame) (ways : Ways) : Type 0 where
     pub on : (s : State) → Behaves loaded (run_at p stack frames d s) (ways.on s)

@@ -4,3 +4,4 @@ pub mod Machine
 pub mod Follows
 pub mod Sound
 pub mod Safe
+pub mod Closed

@@ -16,7 +16,7 @@ use Rattle.cfg_tree.specs.Transformations.{transformed}
 use Rattle.cfg_tree.specs.Meaning.{item_of, matched, end_of, max_statements}
 use Rattle.cfg_code.specs.declared.instr.Instr.{Instr}
 use Rattle.cfg_code.specs.declared.instr.Instr.TheVariants.{Push, Load, LoadCode, LoadSuccess, Store, Read, ReadItem, Write, WriteItem, Transform, Concat, PushArgument, CallFunction, ExitOnZero, CallBlock, Binary, Negate, Not, ToBool, Match, JumpIfFalseOrPop, JumpIfTrueOrPop, Pop, CountStatement, JumpIfFalse, Jump, Case, BeginLoop, BeginRound, LoopBack, EndLoop, Break, Return, Exit, Drop, EndBlock}
-use Rattle.cfg_code.specs.declared.code.Loaded.{Loaded}
+use Rattle.cfg_code.specs.Flat.{FlatScript}
 use Rattle.cfg_code.specs.declared.machine.Frame.{Frame}
 use Rattle.cfg_code.specs.declared.machine.Frame.TheVariants.{Loop, Back}
 use Rattle.cfg_code.specs.declared.machine.Wait.{Wait}
@@ -168,11 +168,11 @@ calling_block (suc calls) to r =
     moved (record r { pc = to; calls_left = calls; frames = Back r.pc (suc calls) ∷ r.frames })
 
 -- the place where a block begins
-abbrev pub entry : Loaded → ℕ → ℕ
+abbrev pub entry : FlatScript → ℕ → ℕ
 entry loaded block = slice_index_or loaded.code.entries block 0
 
 -- what an instruction does, where the run's place is behind it
-abbrev pub act : Loaded → Instr → Configuration → Next
+abbrev pub act : FlatScript → Instr → Configuration → Next
 act loaded (Push v) r = moved (put v r)
 act loaded (Load x) r = moved (put (slice_index_or r.env.vars x val.Null) r)
 act loaded LoadCode r = moved (put (val.Int r.env.rc) r)
@@ -210,19 +210,19 @@ act loaded Exit r = over how.Exit r
 act loaded Drop r = over how.Drop r
 act loaded EndBlock r = leave r.frames (pos 1) how.Normal r
 
-abbrev pub fetched : Loaded → Option Instr → Configuration → Next
+abbrev pub fetched : FlatScript → Option Instr → Configuration → Next
 fetched loaded None r = stuck r
 fetched loaded (Some i) r = act loaded i (record r { pc = r.pc + 1 })
 
 -- one instruction, which stands at the run's place
-abbrev pub step_of : Loaded → Configuration → Next
+abbrev pub step_of : FlatScript → Configuration → Next
 step_of loaded r = fetched loaded (slice_get loaded.code.instrs r.pc) r
 
 -- ---- what a run asks, as the instruction before its place, the stack and the arguments say
 
 -- where nothing is asked
 abbrev pub no_ask : HostAsk
-no_ask = ask.Read (pv.Item 0 [])
+no_ask = ask.Read pv.Null
 
 -- of an item under a key, which is a text
 abbrev pub item_read : TableUse → ℕ → Option Val → HostAsk
@@ -245,7 +245,7 @@ asked_by (Some (WriteItem way t)) r = item_written way t (slice_get r.stack 0) (
 asked_by (Some (CallFunction f)) r = ask.Call f r.arguments
 asked_by other r = no_ask
 
-abbrev pub asked_of : Loaded → Configuration → HostAsk
+abbrev pub asked_of : FlatScript → Configuration → HostAsk
 asked_of loaded r = asked_by (slice_get loaded.code.instrs (r.pc - 1)) r
 
 -- ---- what an answer does: it takes what was asked about
@@ -265,7 +265,7 @@ told answer r = told_as r.wait answer r
 -- ---- beginning and end
 
 -- what a run of a block has at its start
-abbrev pub begun : Loaded → ℕ → Env → Configuration
+abbrev pub begun : FlatScript → ℕ → Env → Configuration
 begun loaded block env = record {
   pc = entry loaded block;
   stack = [];

@@ -60,7 +60,14 @@ impl Code {
     }
 }
 
-/// A script as code.
+/// A script as code. Every number in it names something that is there: a block, a pattern, a table or a
+/// name of `$var`.
+///
+/// ```
+/// // request_route { t_relay(); }
+/// loaded.code.instrs()[loaded.code.entry(loaded.request)]; // CountStatement
+/// loaded.code.instrs()[loaded.code.entry(loaded.request) + 1]; // CallFunction(TRelay)
+/// ```
 #[derive(Drop)]
 pub struct Loaded {
     pub code: Code,
@@ -73,4 +80,42 @@ pub struct Loaded {
     pub patterns: Patterns,
     pub tables: Items<TableSpec>,
     pub parameters: Parameters,
+}
+
+impl Model for Loaded {
+    ghost use Rattle.cfg_code.specs.Flat.{FlatScript};
+    ghost use Rattle.cfg_code.specs.Closed.{IsClosedCode};
+
+    ghost Value = { FlatScript };
+
+    ghost view = { λ l. record {
+      code = l.code;
+      request = l.request;
+      reply = l.reply;
+      vars = l.vars;
+      patterns = l.patterns;
+      tables = l.tables;
+      parameters = l.parameters;
+    } };
+
+    ghost invariant = { λ l. IsClosedCode (record {
+      code = l.code;
+      request = l.request;
+      reply = l.reply;
+      vars = l.vars;
+      patterns = l.patterns;
+      tables = l.tables;
+      parameters = l.parameters;
+    }) };
+}
+
+impl Loaded {
+    ghost use Rattle.cfg_code.specs.Closed.{IsClosedCode};
+
+    /// Each number in it names something that is there.
+    pub fn is_closed(&self)
+        ensures { IsClosedCode self.now }
+    {
+        let _code = &self.code;
+    }
 }

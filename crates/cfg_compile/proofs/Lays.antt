@@ -1,15 +1,21 @@
 -- The code of blocks is laid one after another.
-use Rattle.std.proofs.Common.{◌≡◌, ℕ, suc, ◌+◌, ◌<◌, ◌≤◌, List, [], ◌∷◌, ◌++◌, length, get_or, take, Some, refl, sym, ap, ◌∙◌, subst, ⊎_elim, arith, append_assoc, length-append}
-use Rattle.std.specs.Prelude.{slice_get}
+use Rattle.std.proofs.Common.{◌≡◌, ℕ, suc, Bool, true, ◌&&◌, ◌+◌, ◌<◌, ◌≤◌, List, [], ◌∷◌, ◌++◌, length, get_or, take, Some, refl, sym, ap, ◌∙◌, subst, ⊎_elim, arith, append_assoc, length-append}
+use Rattle.std.specs.Prelude.{slice_get, nat_lt}
+use Rattle.std.specs.List.{list_all}
 use Rattle.std.proofs.Math.Seq.{get_or-append_seam}
-use Rattle.std.proofs.lemmas.Bool.{cases_lt}
-use Rattle.std.proofs.lemmas.List.{take_more, get_or_append_left, get_or_past}
+use Rattle.std.proofs.lemmas.Bool.{cases_lt, and_from, and_parts}
+use Rattle.std.proofs.lemmas.List.Folds.{list_all-append}
+use Rattle.std.proofs.lemmas.List.{take_more, take_all, get_or_append_left, get_or_past}
 use Rattle.std.proofs.lemmas.Option.{slice_get-get_or, slice_get_within, get_or_from_slice_get}
 use Rattle.cfg_tree.specs.declared.script.Stmt.{Stmt}
+use Rattle.cfg_tree.specs.declared.script.Script.{Script}
+use Rattle.cfg_tree.specs.Closed.{Names, closed_block, closed_reply, names_with, is_below, IsClosed}
 use Rattle.cfg_code.specs.declared.instr.Instr.{Instr}
 use Rattle.cfg_code.specs.declared.instr.Instr.TheVariants.{EndBlock}
 use Rattle.cfg_code.specs.Code.{block_code}
 use Rattle.cfg_code.specs.Follows.{HasAt}
+use Rattle.cfg_code.specs.Flat.{Flat}
+use Rattle.cfg_code.specs.Closed.{closed_instr, closed_code, IsClosedCode}
 use Rattle.cfg_code.specs.Sound.{Shape, nothing, Leads, AllSound, AreFine, Shaped}
 use Rattle.cfg_compile.specs.Blocks.{StandsFor}
 
@@ -54,15 +60,30 @@ SoundBefore code entries behind = (all : List Shape) × AreFine code all behind 
 abbrev pub EachSound : Type 0
 EachSound = (block : List Stmt) (behind : List Shape) → Shaped (block_code block) nothing behind
 
--- these blocks stand where they begin, and are sound
+-- the code of each closed block is closed
+abbrev pub EachClosed : Type 0
+EachClosed = (names : Names) (block : List Stmt) → closed_block names block ≡ true → closed_code names (block_code block) ≡ true
+
+-- code that names what is there, where its blocks do
+abbrev pub ClosedAs : List Instr → List (List Stmt) → Type 0
+ClosedAs code blocks = (names : Names) → list_all (closed_block names) blocks ≡ true → closed_code names code ≡ true
+
+closed_more : EachClosed → (code : List Instr) (blocks : List (List Stmt)) (x : List Stmt) → ClosedAs code blocks → ClosedAs (code ++ block_code x) (blocks ++ x ∷ [])
+closed_more each code blocks x closed names e =
+    let parts = and_parts _ _ (sym (list_all-append (closed_block names) blocks (x ∷ [])) ∙ e) in
+    let last = and_parts (closed_block names x) true parts.1 in
+    list_all-append (closed_instr names) code (block_code x) ∙ and_from _ _ (closed names parts.0) (each names x last.0)
+
+-- these blocks stand where they begin, and are sound and closed
 pub record Laid (code : List Instr) (entries : List ℕ) (blocks : List (List Stmt)) : Type 0 where
   pub start : HasAt code 0 (EndBlock ∷ [])
   pub count : length entries ≡ length blocks
   pub each : (b : ℕ) → b < length blocks → HasAt code (get_or entries b 0) (block_code (get_or blocks b []))
   pub sound : (behind : List Shape) → SoundBefore code entries behind
+  pub closed : ClosedAs code blocks
 
 pub laid_none : Laid (EndBlock ∷ []) [] []
-laid_none = record { start = (refl, tt); count = refl; each = λ b h. absurd (omega arith); sound = λ behind. (nothing ∷ behind, (refl, refl), λ b. refl) }
+laid_none = record { start = (refl, tt); count = refl; each = λ b h. absurd (omega arith); sound = λ behind. (nothing ∷ behind, (refl, refl), λ b. refl); closed = λ names e. refl }
 
 sound_more : EachSound → (code : List Instr) (entries : List ℕ) (x : List Stmt) → ((behind : List Shape) → SoundBefore code entries behind) → (behind : List Shape) → SoundBefore (code ++ block_code x) (entries ++ length code ∷ []) behind
 sound_more each code entries x sound behind =
@@ -85,8 +106,8 @@ sound_more each code entries x sound behind =
           (cases_lt b (length entries)),
     )
 
-laid_more : EachSound → (code : List Instr) (entries : List ℕ) (blocks : List (List Stmt)) (x : List Stmt) → Laid code entries blocks → Laid (code ++ block_code x) (entries ++ length code ∷ []) (blocks ++ x ∷ [])
-laid_more sound code entries blocks x laid = record {
+laid_more : EachSound → EachClosed → (code : List Instr) (entries : List ℕ) (blocks : List (List Stmt)) (x : List Stmt) → Laid code entries blocks → Laid (code ++ block_code x) (entries ++ length code ∷ []) (blocks ++ x ∷ [])
+laid_more sound each_closed code entries blocks x laid = record {
   start = has_longer code (block_code x) 0 (EndBlock ∷ []) laid.start;
   count = omega (arith, length-append entries (length code ∷ []), length-append blocks (x ∷ []), laid.count);
   each = λ b h. ⊎_elim
@@ -106,6 +127,7 @@ laid_more sound code entries blocks x laid = record {
       (subst (λ l. HasAt (code ++ block_code x) (length code) (block_code l)) (sym f) (has_all (block_code x) code)))
       (cases_lt b (length blocks));
   sound = sound_more sound code entries x laid.sound;
+  closed = closed_more each_closed code blocks x laid.closed;
 }
 
 pub laid_all : (code : List Instr) (entries : List ℕ) (blocks : List (List Stmt)) → Laid code entries blocks → StandsFor code entries blocks
@@ -123,8 +145,31 @@ laid_sound code entries blocks laid =
     let A = laid.sound [] in
     record { shapes = ∣ (A.0, record { fine = A.1; blocks = A.2 }) ∣₁ }
 
-pub laid_on : EachSound → (code code' text : List Instr) (entries entries' : List ℕ) (at : ℕ) (blocks : List (List Stmt)) (i : ℕ) (x : List Stmt) → i < length blocks → x ≡ get_or blocks i x →
+pub laid_on : EachSound → EachClosed → (code code' text : List Instr) (entries entries' : List ℕ) (at : ℕ) (blocks : List (List Stmt)) (i : ℕ) (x : List Stmt) → i < length blocks → x ≡ get_or blocks i x →
     at ≡ length code → entries' ≡ entries ++ at ∷ [] → text ≡ block_code x → code' ≡ code ++ text → Laid code entries (take i blocks) → Laid code' entries' (take (i + 1) blocks)
-laid_on sound code code' text entries entries' at blocks i x h is e f t g laid =
+laid_on sound each_closed code code' text entries entries' at blocks i x h is e f t g laid =
     let next : take (i + 1) blocks ≡ take i blocks ++ x ∷ [] = take_more blocks i x h ∙ ap (λ x. take i blocks ++ x ∷ []) (sym is) in
-    rw (next, g, t, f, e) (laid_more sound code entries (take i blocks) x laid)
+    rw (next, g, t, f, e) (laid_more sound each_closed code entries (take i blocks) x laid)
+
+pub closed_all : (code : List Instr) (entries : List ℕ) (blocks : List (List Stmt)) (i : ℕ) (made : Flat) → length blocks ≤ i → made ≡ record { instrs = code; entries = entries } →
+    Laid code entries (take i blocks) → ClosedAs made.instrs blocks
+closed_all code entries blocks i made past is laid names e =
+    subst (λ (f : Flat). closed_code names f.instrs ≡ true) (sym is)
+    (laid.closed names (subst (λ bs. list_all (closed_block names) bs ≡ true) (sym (take_all i blocks past)) e))
+
+-- the code of a closed script is closed
+pub code_closed : (script : Script) (code : Flat) → IsClosed script → length code.entries ≡ length script.blocks → ClosedAs code.instrs script.blocks → IsClosedCode (record {
+  code = code;
+  request = script.request;
+  reply = script.reply;
+  vars = script.vars;
+  patterns = script.patterns;
+  tables = script.tables;
+  parameters = script.parameters;
+})
+code_closed script code e same closed =
+    let names : ℕ → Names = λ n. names_with (is_below n) script in
+    let n = length script.blocks in
+    let parts = and_parts _ (list_all (closed_block (names n)) script.blocks) e in
+    subst (λ n. (nat_lt script.request n && closed_reply (names n) script.reply && closed_code (names n) code.instrs) ≡ true) (sym same)
+    (and_from _ _ parts.0 (closed (names n) parts.1))

@@ -1,4 +1,4 @@
-// Expressions.
+//! Expressions.
 
 ghost use Rattle.std.specs.Prelude.{◌≡◌, IfOk};
 ghost use Rattle.cfg_tree.specs.Meaning.{AsTruth};

@@ -2,12 +2,9 @@
 #![tactic(auto)]
 
 mod block;
-pub mod expr;
+mod expr;
 mod part;
 mod stmt;
 mod text;
 
 pub use block::compile;
-
-#[cfg(test)]
-mod tests;

@@ -1,4 +1,4 @@
-// Parts of expanded texts, and what is made of them.
+//! Parts of expanded texts, and what is made of them.
 
 ghost use Rattle.std.specs.Prelude.{◌≡◌, ◌∷◌, [], IfOk};
 ghost use Rattle.cfg_code.specs.Code.{part_code, concats_code, expansion_code, arguments_code};

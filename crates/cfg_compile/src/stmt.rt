@@ -1,4 +1,4 @@
-// Statements.
+//! Statements.
 
 ghost use Rattle.std.specs.Prelude.{◌≡◌, IfOk};
 ghost use Rattle.cfg_code.specs.Code.{stmt_code, list_code, set_text, if_text, while_text, case_text, switch_text};

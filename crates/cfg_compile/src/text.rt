@@ -1,4 +1,4 @@
-// Texts of instructions, made of the texts of parts.
+//! Texts of instructions, made of the texts of parts.
 
 ghost use Rattle.std.specs.Prelude.{◌≡◌, ◌+◌, ◌^◌, ◌≤◌, ◌++◌, ◌∷◌, [], IfOk, IfErr};
 ghost use Rattle.cfg_code.specs.Code.{argument_text, called_text, link_text, and_text, or_text};

@@ -8,7 +8,7 @@ use Rattle.std.specs.Prelude.{codes}
 use Rattle.std.proofs.lemmas.Bool.{cases_Bool, cases_eq, ne_eqb, both_ways}
 use Rattle.cfg_tree.specs.Variables.{begins_name}
 use Rattle.cfg_lex.specs.Bytes.{is_blank, is_quote}
-use Rattle.cfg_lex.specs.Shapes.{ordinary_at, hash_at, slash_at, word_at, number_at, string_at, dollar_at}
+use Rattle.cfg_lex.specs.Shapes.{ordinary_at, hash_at, slash_at, word_token_at, number_token_at, string_at, dollar_at}
 
 -- a byte of a class is none that the class lacks
 pub differs : (p : ℕ → Bool) (b m : ℕ) → p b ≡ true → p m ≡ false → (b == m) ≡ false
@@ -43,7 +43,7 @@ pub at_slash : (fresh : Bool) (text : List ℕ) → ordinary_at fresh (47 ∷ te
 unfolding ordinary_at
 at_slash fresh text = refl
 
-pub at_word : (fresh : Bool) (b : ℕ) (text : List ℕ) → begins_name b ≡ true → ordinary_at fresh (b ∷ text) ≡ word_at (b ∷ text)
+pub at_word : (fresh : Bool) (b : ℕ) (text : List ℕ) → begins_name b ≡ true → ordinary_at fresh (b ∷ text) ≡ word_token_at (b ∷ text)
 unfolding ordinary_at
 at_word fresh b text h =
     let blank : is_blank b ≡ false = none_of begins_name b (codes " \t\r\n") h refl in
@@ -54,7 +54,7 @@ at_word fresh b text h =
 no_name : (b : ℕ) → is_ascii_digit b ≡ true → begins_name b ≡ false
 no_name b h = elim (cases_Bool (begins_name b)) [ inl t ↦ absurd (grind (arith, nat_tests)) | inr f ↦ f ]
 
-pub at_digit : (fresh : Bool) (b : ℕ) (text : List ℕ) → is_ascii_digit b ≡ true → ordinary_at fresh (b ∷ text) ≡ number_at (b ∷ text)
+pub at_digit : (fresh : Bool) (b : ℕ) (text : List ℕ) → is_ascii_digit b ≡ true → ordinary_at fresh (b ∷ text) ≡ number_token_at (b ∷ text)
 unfolding ordinary_at
 at_digit fresh b text h =
     let blank : is_blank b ≡ false = none_of is_ascii_digit b (codes " \t\r\n") h refl in

@@ -9,10 +9,10 @@ use Rattle.std.proofs.lemmas.List.Folds.{length-prefix_len}
 use Rattle.cfg_tree.specs.declared.token.Lexeme.{Lexeme}
 use Rattle.cfg_tree.specs.declared.token.Lexeme.TheVariants as lexeme
 use Rattle.cfg_tree.specs.declared.setting.Listen.{Listen}
-use Rattle.cfg_lex.specs.declared.context.Context.{Context}
-use Rattle.cfg_lex.specs.declared.context.Context.TheVariants.{Plain, BehindListen, BehindRoute, Address, BlockName}
-use Rattle.cfg_lex.specs.declared.shape.Shape.{Shape}
-use Rattle.cfg_lex.specs.declared.shape.Shape.TheVariants as shape
+use Rattle.cfg_lex.specs.declared.context.TokenContext.{TokenContext}
+use Rattle.cfg_lex.specs.declared.context.TokenContext.TheVariants.{Plain, BehindListen, BehindRoute, Address, BlockName}
+use Rattle.cfg_lex.specs.declared.shape.TokenShape.{TokenShape}
+use Rattle.cfg_lex.specs.declared.shape.TokenShape.TheVariants as shape
 use Rattle.cfg_lex.specs.declared.shape.Found.{Found}
 use Rattle.cfg_lex.specs.declared.shape.Found.TheVariants.{Gap, Token}
 use Rattle.cfg_lex.specs.declared.shape.Wrong.{Wrong}
@@ -20,7 +20,7 @@ use Rattle.cfg_lex.specs.declared.shape.Wrong.TheVariants.{BadByte, Unclosed}
 use Rattle.cfg_lex.specs.Bytes.{is_blank, is_block_byte}
 use Rattle.cfg_lex.specs.Listens.{listen_at}
 use Rattle.cfg_lex.specs.Shapes.{ordinary_at, found_at, lexeme_of}
-use Rattle.cfg_lex.specs.Tokens.{Ends, IsRun, IsGap, blank, hash, slashes, bracketed, IsListen, NoSpecial, IsToken, block_name, listen, ordinary, IsFault}
+use Rattle.cfg_lex.specs.Tokens.{Ends, IsLongestRun, IsBlankOrComment, blank, hash, slashes, bracketed, IsListen, NoSpecial, IsToken, block_name, listen, ordinary, IsFault}
 use Rattle.cfg_lex.proofs.ReadLaw.{Reads, token}
 use Rattle.cfg_lex.proofs.RunLaw.{run_is, run_taken}
 use Rattle.cfg_lex.proofs.EndLaw.{head_is}
@@ -54,7 +54,7 @@ nothing_listens text none = by_cases (listen_at text) refl
     by_cases None e = refl
     by_cases (Some r) e = absurd (none (take r.1 text) (drop r.1 text) r.0 (sym (take-append-drop r.1 text)) (listen_takes text r e))
 
-none_special : (fresh : Bool) (context : Context) (text : List ℕ) → NoSpecial context text → found_at fresh context text ≡ ordinary_at fresh text
+none_special : (fresh : Bool) (context : TokenContext) (text : List ℕ) → NoSpecial context text → found_at fresh context text ≡ ordinary_at fresh text
 unfolding found_at
 none_special fresh Plain text none = refl
 none_special fresh BehindListen text none = refl
@@ -67,7 +67,7 @@ none_special fresh BlockName text none = no_block fresh text (none_run is_block_
 listen_first : (b : ℕ) (xs w rest : List ℕ) (l : Listen) → b ∷ xs ≡ w ++ rest → IsListen w rest l → b ≡ 117
 listen_first b xs w rest l e is = head_is b 117 xs _ (e ∙ ap (λ (ws : List ℕ). ws ++ rest) is.whole)
 
-not_special : (context : Context) (b : ℕ) (xs : List ℕ) → is_block_byte b ≡ false → b ≢ 117 → NoSpecial context (b ∷ xs)
+not_special : (context : TokenContext) (b : ℕ) (xs : List ℕ) → is_block_byte b ≡ false → b ≢ 117 → NoSpecial context (b ∷ xs)
 not_special Plain b xs lacks other = tt
 not_special BehindListen b xs lacks other = tt
 not_special BehindRoute b xs lacks other = tt
@@ -83,7 +83,7 @@ blank_lacks b h = elim (cases_Bool (is_block_byte b)) [
 blank_no_u : (b : ℕ) → is_blank b ≡ true → b ≢ 117
 blank_no_u b h = λ e. let P : ℕ → Type 0 = λ n. is_blank n ≡ true in both_ways (is_blank 117) refl (subst P e h)
 
-gap_special : (fresh : Bool) (context : Context) (w rest : List ℕ) → IsGap fresh w rest → NoSpecial context (w ++ rest)
+gap_special : (fresh : Bool) (context : TokenContext) (w rest : List ℕ) → IsBlankOrComment fresh w rest → NoSpecial context (w ++ rest)
 gap_special fresh context _ _ (blank _ b rest h) = not_special context b rest (blank_lacks b h) (blank_no_u b h)
 gap_special fresh context _ _ (hash _ w rest is lacks) = not_special context 35 (w ++ rest) refl (λ e. omega (arith, e))
 gap_special fresh context _ _ (slashes _ w rest is) = not_special context 47 (47 ∷ w ++ rest) refl (λ e. omega (arith, e))
@@ -91,16 +91,16 @@ gap_special fresh context _ _ (bracketed _ w rest none) = not_special context 47
 
 -- ---- from the relation
 
-pub gap_found : (fresh : Bool) (context : Context) (w rest : List ℕ) → IsGap fresh w rest → found_at fresh context (w ++ rest) ≡ Ok (Gap (length w))
+pub gap_found : (fresh : Bool) (context : TokenContext) (w rest : List ℕ) → IsBlankOrComment fresh w rest → found_at fresh context (w ++ rest) ≡ Ok (Gap (length w))
 gap_found fresh context w rest g = none_special fresh context (w ++ rest) (gap_special fresh context w rest g) ∙ gap_again fresh w rest g
 
 -- in this context a token of this shape is read, w long
-pub record FindsToken (fresh : Bool) (context : Context) (text w : List ℕ) (x : Lexeme) : Type 0 where
-  pub shape : Shape
+pub record FindsToken (fresh : Bool) (context : TokenContext) (text w : List ℕ) (x : Lexeme) : Type 0 where
+  pub shape : TokenShape
   pub read : found_at fresh context text ≡ token shape (length w)
   pub lexeme : lexeme_of text shape (length w) ≡ x
 
-block_read : (fresh : Bool) (w rest : List ℕ) → 0 < length w → IsRun is_block_byte w rest → found_at fresh BlockName (w ++ rest) ≡ token shape.BlockName (length w)
+block_read : (fresh : Bool) (w rest : List ℕ) → 0 < length w → IsLongestRun is_block_byte w rest → found_at fresh BlockName (w ++ rest) ≡ token shape.BlockName (length w)
 unfolding found_at
 block_read fresh w rest some is =
     let n = run_is is_block_byte w rest is in
@@ -119,7 +119,7 @@ listen_text : (text : List ℕ) (l : Listen) (n : ℕ) → lexeme_of text (shape
 unfolding lexeme_of
 listen_text text l n = refl
 
-pub token_found : (fresh : Bool) (context : Context) (w rest : List ℕ) (x : Lexeme) → IsToken context w rest x → FindsToken fresh context (w ++ rest) w x
+pub token_found : (fresh : Bool) (context : TokenContext) (w rest : List ℕ) (x : Lexeme) → IsToken context w rest x → FindsToken fresh context (w ++ rest) w x
 token_found fresh _ _ _ _ (block_name w rest some is) = record { shape = shape.BlockName; read = block_read fresh w rest some is; lexeme = block_text w rest }
 token_found fresh _ _ _ _ (listen w rest l is) = record {
   shape = shape.Listen l;
@@ -130,31 +130,31 @@ token_found fresh _ _ _ _ (ordinary context w rest x none is) =
     let r = token_again fresh w rest x is in
     record { shape = r.shape; read = none_special fresh context (w ++ rest) none ∙ r.read; lexeme = r.lexeme }
 
-pub fault_found : (fresh : Bool) (context : Context) (text : List ℕ) (wrong : Wrong) → NoSpecial context text → ordinary_at fresh text ≡ Err wrong →
+pub fault_found : (fresh : Bool) (context : TokenContext) (text : List ℕ) (wrong : Wrong) → NoSpecial context text → ordinary_at fresh text ≡ Err wrong →
     found_at fresh context text ≡ Err wrong
 fault_found fresh context text wrong none h = none_special fresh context text none ∙ h
 
 -- ---- from the function
 
 -- what is found at the beginning of a text, in this context, stands there
-abbrev pub Finds : Bool → Context → List ℕ → Result Found Wrong → Type 0
-Finds fresh context text (Ok (Gap n)) = IsGap fresh (take n text) (drop n text)
+abbrev pub Finds : Bool → TokenContext → List ℕ → Result Found Wrong → Type 0
+Finds fresh context text (Ok (Gap n)) = IsBlankOrComment fresh (take n text) (drop n text)
 Finds fresh context text (Ok (Token s n)) = IsToken context (take n text) (drop n text) (lexeme_of text s n)
 Finds fresh context text (Err (BadByte from to)) = NoSpecial context text × IsFault fresh text 1 from to
 Finds fresh context text (Err Unclosed) = NoSpecial context text × IsFault fresh text 2 0 (length text)
 
-ordinary_finds : (fresh : Bool) (context : Context) (text : List ℕ) (r : Result Found Wrong) → NoSpecial context text → Reads fresh text r → Finds fresh context text r
+ordinary_finds : (fresh : Bool) (context : TokenContext) (text : List ℕ) (r : Result Found Wrong) → NoSpecial context text → Reads fresh text r → Finds fresh context text r
 ordinary_finds fresh context text (Ok (Gap n)) none h = h
 ordinary_finds fresh context text (Ok (Token s n)) none h =
     ordinary context (take n text) (drop n text) (lexeme_of text s n) (subst (λ xs. NoSpecial context xs) (sym (take-append-drop n text)) none) h
 ordinary_finds fresh context text (Err (BadByte from to)) none h = (none, h)
 ordinary_finds fresh context text (Err Unclosed) none h = (none, h)
 
-finds_as : (fresh : Bool) (context : Context) (text : List ℕ) (r : Result Found Wrong) → found_at fresh context text ≡ r → Finds fresh context text r →
+finds_as : (fresh : Bool) (context : TokenContext) (text : List ℕ) (r : Result Found Wrong) → found_at fresh context text ≡ r → Finds fresh context text r →
     Finds fresh context text (found_at fresh context text)
 finds_as fresh context text r e h = subst (λ q. Finds fresh context text q) (sym e) h
 
-plain_finds : (fresh : Bool) (context : Context) (text : List ℕ) → 0 < length text → NoSpecial context text →
+plain_finds : (fresh : Bool) (context : TokenContext) (text : List ℕ) → 0 < length text → NoSpecial context text →
     found_at fresh context text ≡ ordinary_at fresh text → Finds fresh context text (found_at fresh context text)
 plain_finds fresh context text some none e =
     finds_as fresh context text (ordinary_at fresh text) e (ordinary_finds fresh context text _ none (ordinary_reads fresh text some))
@@ -184,7 +184,7 @@ address_finds fresh text (Some r) some e = finds_as fresh Address text _ (listen
 address_finds fresh text None some e = plain_finds fresh Address text some
     (λ w rest l same is. none-some (l, length w) (sym e ∙ ap listen_at same ∙ listen_again w rest l is)) (no_listen fresh text e)
 
-pub found_finds : (fresh : Bool) (context : Context) (text : List ℕ) → 0 < length text →
+pub found_finds : (fresh : Bool) (context : TokenContext) (text : List ℕ) → 0 < length text →
     Finds fresh context text (found_at fresh context text)
 found_finds fresh Plain text some = plain_finds fresh Plain text some tt (none_special fresh Plain text tt)
 found_finds fresh BehindListen text some = plain_finds fresh BehindListen text some tt (none_special fresh BehindListen text tt)

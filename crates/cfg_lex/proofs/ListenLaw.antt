@@ -19,11 +19,11 @@ use Rattle.sip_words.proofs.Steps.{bind_some}
 use Rattle.sip_words.proofs.Pieces.{behind, number_again, stands_at}
 use Rattle.sip_words.proofs.Pieces as pieces
 use Rattle.sip_words.proofs.Takes.{Takes, number_takes, stands_takes, not_none}
-use Rattle.sip_fields.specs.Host.{octet_at, dot_end, v4_at}
+use Rattle.sip_words.specs.Addresses.{octet_at, dot_end, v4_at}
 use Rattle.sip_fields.specs.Parts.{Numbers, host, IsOctet, AreOctets}
 use Rattle.cfg_tree.specs.declared.setting.Listen.{Listen}
-use Rattle.cfg_lex.specs.Listens.{begins_udp, port_at, colon_end, address_at, listen_at}
-use Rattle.cfg_lex.specs.Tokens.{Ends, IsPort, IsListen}
+use Rattle.cfg_lex.specs.Listens.{begins_udp, listen_port_at, colon_end, listen_address_at, listen_at}
+use Rattle.cfg_lex.specs.Tokens.{Ends, IsListenPort, IsListen}
 use Rattle.cfg_lex.proofs.RunLaw.{run_taken}
 
 after : {text : List ℕ} {i j k : ℕ} {v w : List ℕ} → Takes text i j v → Takes text j k w → Takes text i k (v ++ w)
@@ -63,8 +63,8 @@ colon_takes : (text : List ℕ) (i j : ℕ) → colon_end text i ≡ Some j → 
 unfolding colon_end
 colon_takes text i j h = let c = cond_some (stands 58 text i) (i + 1) j h in subst (λ k. Takes text i k (58 ∷ [])) c.1 (stands_takes 58 text i c.0)
 
-port_again : (text : List ℕ) (i : ℕ) (w rest : List ℕ) → drop i text ≡ w ++ rest → IsPort w → pieces.Ends class.Digit rest → port_at text i ≡ Some (digits_value 10 w, i + length w)
-unfolding port_at
+port_again : (text : List ℕ) (i : ℕ) (w rest : List ℕ) → drop i text ≡ w ++ rest → IsListenPort w → pieces.Ends class.Digit rest → listen_port_at text i ≡ Some (digits_value 10 w, i + length w)
+unfolding listen_port_at
 port_again text i w rest h is ends =
     let low : nat_lt 0 (digits_value 10 w) ≡ true = lt-ltb _ _ is.low in
     let high : nat_lt (digits_value 10 w) 65536 ≡ true = lt-ltb _ _ is.high in
@@ -74,8 +74,8 @@ cond_inner : {A : Type 0} (b : Bool) (o : Option A) (y : A) → cond b o None �
 cond_inner true o y k = (refl, k)
 cond_inner false o y k = absurd (none-some y k)
 
-port_takes : (text : List ℕ) (i : ℕ) (r : ℕ × ℕ) → port_at text i ≡ Some r → (w : List ℕ) × Takes text i r.1 w × IsPort w × (r.0 ≡ digits_value 10 w)
-unfolding port_at
+port_takes : (text : List ℕ) (i : ℕ) (r : ℕ × ℕ) → listen_port_at text i ≡ Some r → (w : List ℕ) × Takes text i r.1 w × IsListenPort w × (r.0 ≡ digits_value 10 w)
+unfolding listen_port_at
 port_takes text i r h =
     let n = bind_some (number_at 5 text i) _ r h in
     let low = cond_inner (nat_lt 0 n.0.0) _ r n.2 in
@@ -189,8 +189,8 @@ unfolding begins_udp
 udp_begins xs = let le : nat_le 4 (length (117 ∷ 100 ∷ 112 ∷ 58 ∷ xs)) ≡ true = le-leb _ _ (omega arith) in rw le refl
 
 address_again : (text : List ℕ) (i : ℕ) (a b c d port rest : List ℕ) → drop i text ≡ (host (Numbers a b c d) ++ 58 ∷ port) ++ rest → AreOctets a b c d →
-    IsPort port → pieces.Ends class.Digit rest → address_at text i ≡ Some (listen_of a b c d port, i + length (host (Numbers a b c d) ++ 58 ∷ port))
-unfolding address_at
+    IsListenPort port → pieces.Ends class.Digit rest → listen_address_at text i ≡ Some (listen_of a b c d port, i + length (host (Numbers a b c d) ++ 58 ∷ port))
+unfolding listen_address_at
 address_again text i a b c d port rest h are is ends =
     let whole = h ∙ append_assoc (host (Numbers a b c d)) (58 ∷ port) rest in
     let ip = v4_again text i a b c d (58 ∷ port ++ rest) whole are colon_ends in
@@ -200,11 +200,11 @@ address_again text i a b c d port rest h are is ends =
     let p = port_again text _ port rest at_port is ends in
     rw (ip, colon, p) (ap (λ (n : ℕ). Some (listen_of a b c d port, n)) (omega (arith, length-append (host (Numbers a b c d)) (58 ∷ port))))
 
-read_listen : (text : List ℕ) → begins_udp text ≡ true → listen_at text ≡ address_at text 4
+read_listen : (text : List ℕ) → begins_udp text ≡ true → listen_at text ≡ listen_address_at text 4
 unfolding listen_at
 read_listen text t = rw t refl
 
-spelled_again : (a b c d port rest : List ℕ) → AreOctets a b c d → IsPort port → pieces.Ends class.Digit rest →
+spelled_again : (a b c d port rest : List ℕ) → AreOctets a b c d → IsListenPort port → pieces.Ends class.Digit rest →
     listen_at ((codes "udp:" ++ (host (Numbers a b c d) ++ 58 ∷ port)) ++ rest) ≡
     Some (listen_of a b c d port, length (codes "udp:" ++ (host (Numbers a b c d) ++ 58 ∷ port)))
 spelled_again a b c d port rest are is ends =
@@ -222,8 +222,8 @@ ends_taken : (rest : List ℕ) → Ends (has class.Digit) rest → Ends is_ascii
 ends_taken [] h = tt
 ends_taken (b ∷ rest) h = sym (digit_has b) ∙ h
 
-port_ends : (text : List ℕ) (i : ℕ) (r : ℕ × ℕ) → port_at text i ≡ Some r → Ends is_ascii_digit (drop r.1 text)
-unfolding port_at number_at run_end
+port_ends : (text : List ℕ) (i : ℕ) (r : ℕ × ℕ) → listen_port_at text i ≡ Some r → Ends is_ascii_digit (drop r.1 text)
+unfolding listen_port_at number_at run_end
 port_ends text i r h =
     let n = bind_some (number_at 5 text i) _ r h in
     let low = cond_inner (nat_lt 0 n.0.0) _ r n.2 in
@@ -245,13 +245,13 @@ udp_taken text t =
     let is : take 4 text ≡ codes "udp:" = (bytes_eq-Decides (take 4 text) (codes "udp:")).0 p.1 in
     record { whole = sym (take-append-drop 4 text) ∙ ap (λ (xs : List ℕ). xs ++ drop 4 text) is; end = refl }
 
-address_takes : (text : List ℕ) (i : ℕ) (r : Listen × ℕ) → Takes text 0 i (codes "udp:") → address_at text i ≡ Some r →
+address_takes : (text : List ℕ) (i : ℕ) (r : Listen × ℕ) → Takes text 0 i (codes "udp:") → listen_address_at text i ≡ Some r →
     IsListen (take r.1 text) (drop r.1 text) r.0
-unfolding address_at
+unfolding listen_address_at
 address_takes text i r udp h =
     let ip = bind_some (v4_at text i) _ r h in
     let colon = bind_some (colon_end text ip.0.1) _ r ip.2 in
-    let port = bind_some (port_at text colon.0) _ r colon.2 in
+    let port = bind_some (listen_port_at text colon.0) _ r colon.2 in
     let v = v4_takes text i ip.0 ip.1 in
     let c = colon_takes text ip.0.1 colon.0 colon.1 in
     let p = port_takes text colon.0 port.0 port.1 in

@@ -8,7 +8,7 @@ use Rattle.cfg_tree.specs.declared.token.Mark.TheVariants.{Divide}
 use Rattle.cfg_tree.specs.Variables.{begins_name}
 use Rattle.cfg_lex.specs.Bytes.{is_blank, is_quote}
 use Rattle.cfg_lex.specs.Marks.{two_byte_mark, bracket, one_byte_mark}
-use Rattle.cfg_lex.specs.Shapes.{ordinary_at, mark_at}
+use Rattle.cfg_lex.specs.Shapes.{ordinary_at, mark_token_at}
 
 -- what holds of the bytes of the brackets, of the commas and of the operators holds of each byte that is one
 bracket_byte : (P : ℕ → Type 0) → P 40 → P 41 → P 91 → P 93 → P 123 → P 125 → P 44 → P 59 → P 58 → (a : ℕ) (m : marks.Mark) →
@@ -147,7 +147,7 @@ two_bytes P p61 p33 p60 p62 p124 p38 a b m h =
 
 -- at such a byte an operator or a bracket is read
 abbrev pub ReadsMark : ℕ → Type 0
-ReadsMark a = (fresh : Bool) (text : List ℕ) → ordinary_at fresh (a ∷ text) ≡ mark_at a text
+ReadsMark a = (fresh : Bool) (text : List ℕ) → ordinary_at fresh (a ∷ text) ≡ mark_token_at a text
 
 pub two_reads : (a b : ℕ) (m : marks.Mark) → two_byte_mark a b ≡ Some m → ReadsMark a
 unfolding ordinary_at
@@ -169,7 +169,7 @@ divide_is = refl
 
 -- any other byte is read as a mark too
 pub other_reads : (fresh : Bool) (b : ℕ) (text : List ℕ) → is_blank b ≡ false → b ≢ 35 → b ≢ 47 → begins_name b ≡ false →
-    is_ascii_digit b ≡ false → is_quote b ≡ false → b ≢ 36 → ordinary_at fresh (b ∷ text) ≡ mark_at b text
+    is_ascii_digit b ≡ false → is_quote b ≡ false → b ≢ 36 → ordinary_at fresh (b ∷ text) ≡ mark_token_at b text
 unfolding ordinary_at
 other_reads fresh b text blank hash slash word digit quote dollar =
     let h = ne_eqb b 35 hash in

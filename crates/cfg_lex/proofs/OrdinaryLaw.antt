@@ -12,15 +12,15 @@ use Rattle.cfg_tree.specs.declared.token.Lexeme.TheVariants as lexeme
 use Rattle.cfg_tree.specs.declared.token.Mark as marks
 use Rattle.cfg_tree.specs.declared.token.Mark.TheVariants.{Divide}
 use Rattle.cfg_tree.specs.Variables.{begins_name}
-use Rattle.cfg_lex.specs.declared.shape.Shape.TheVariants as shape
+use Rattle.cfg_lex.specs.declared.shape.TokenShape.TheVariants as shape
 use Rattle.cfg_lex.specs.declared.shape.Found.{Found}
 use Rattle.cfg_lex.specs.declared.shape.Wrong.{Wrong}
 use Rattle.cfg_lex.specs.declared.shape.Wrong.TheVariants.{BadByte, Unclosed}
 use Rattle.cfg_lex.specs.Bytes.{is_blank, is_quote}
 use Rattle.cfg_lex.specs.Comments.{is_no_comment, before_end}
 use Rattle.cfg_lex.specs.Marks.{two_byte_mark, one_byte_mark}
-use Rattle.cfg_lex.specs.Shapes.{bad, one_byte, two_bytes, mark_at, hash_at, slash_at, ordinary_at, lexeme_of, refused}
-use Rattle.cfg_lex.specs.Tokens.{Part, IsPart, parts, blank, IsOrdinary, name, word, long_mark, short_mark, number, string, variable, IsWholeMark, IsStray, IsFault, open_string, open_comment, open_variable, bad_escape, large_number, stray_hash, stray_dollar, stray_byte, place}
+use Rattle.cfg_lex.specs.Shapes.{bad, one_byte, two_bytes, mark_token_at, hash_at, slash_at, ordinary_at, lexeme_of, refused}
+use Rattle.cfg_lex.specs.Tokens.{StringPart, IsPart, all_written, blank, IsOrdinary, name, word, long_mark, short_mark, number, string, variable, IsWholeMark, IsStray, IsFault, open_string, open_comment, open_variable, bad_escape, large_number, stray_hash, stray_dollar, stray_byte, place_between}
 use Rattle.cfg_lex.proofs.ReadLaw.{Reads, token, ReadsToken}
 use Rattle.cfg_lex.proofs.EndLaw.{head_is, none_ends}
 use Rattle.cfg_lex.proofs.GapLaw.{hash_reads, slash_reads}
@@ -71,8 +71,8 @@ two_reads_as fresh b c rest (Some m) is e = long_mark b c rest m e
 two_reads_as fresh b c rest None is e = one_reads_as fresh b (c ∷ rest) (one_byte_mark b) is refl (e, λ s. absurd (is.slash s))
     (λ d more same. ap (two_byte_mark b) (sym (head_is c d rest more same)) ∙ e)
 
-mark_reads : (fresh : Bool) (b : ℕ) (rest : List ℕ) → IsOther b → Reads fresh (b ∷ rest) (mark_at b rest)
-unfolding mark_at
+mark_reads : (fresh : Bool) (b : ℕ) (rest : List ℕ) → IsOther b → Reads fresh (b ∷ rest) (mark_token_at b rest)
+unfolding mark_token_at
 mark_reads fresh b [] is = one_reads_as fresh b [] (one_byte_mark b) is refl tt (λ c more same. absurd (cc))
 mark_reads fresh b (c ∷ rest) is = two_reads_as fresh b c rest (two_byte_mark b c) is refl
 
@@ -128,12 +128,12 @@ mark_text : (w rest : List ℕ) (m : marks.Mark) (n : ℕ) → lexeme_of (w ++ r
 unfolding lexeme_of
 mark_text w rest m n = refl
 
-read_long : (a b : ℕ) (rest : List ℕ) (m : marks.Mark) → two_byte_mark a b ≡ Some m → mark_at a (b ∷ rest) ≡ token (shape.Mark m) 2
-unfolding mark_at
+read_long : (a b : ℕ) (rest : List ℕ) (m : marks.Mark) → two_byte_mark a b ≡ Some m → mark_token_at a (b ∷ rest) ≡ token (shape.Mark m) 2
+unfolding mark_token_at
 read_long a b rest m h = rw h refl
 
-read_short : (a : ℕ) (rest : List ℕ) (m : marks.Mark) → one_byte_mark a ≡ Some m → IsWholeMark a rest → mark_at a rest ≡ token (shape.Mark m) 1
-unfolding mark_at
+read_short : (a : ℕ) (rest : List ℕ) (m : marks.Mark) → one_byte_mark a ≡ Some m → IsWholeMark a rest → mark_token_at a rest ≡ token (shape.Mark m) 1
+unfolding mark_token_at
 read_short a [] m h whole = rw h refl
 read_short a (b ∷ rest) m h whole = let none = whole.0 in rw (none, h) refl
 
@@ -191,13 +191,13 @@ token_again fresh _ _ _ (variable w rest v h) = variable_again fresh w rest v h
 pub record ReadsFault (fresh : Bool) (text : List ℕ) (kind from to : ℕ) : Type 0 where
   pub wrong : Wrong
   pub read : ordinary_at fresh text ≡ Err wrong
-  pub placed : (i : ℕ) → refused i (i + length text) wrong ≡ Refused kind (place (i + from) (i + to))
+  pub placed : (i : ℕ) → refused i (i + length text) wrong ≡ Refused kind (place_between (i + from) (i + to))
 
 bad_placed : (fresh : Bool) (text : List ℕ) (from to : ℕ) → ordinary_at fresh text ≡ bad from to → ReadsFault fresh text 1 from to
 bad_placed fresh text from to h = record { wrong = BadByte from to; read = h; placed = λ i. refl }
 
 abbrev refusal : ℕ → ℕ → ScriptFault
-refusal i j = Refused 2 (place i j)
+refusal i j = Refused 2 (place_between i j)
 
 open_placed : (fresh : Bool) (text : List ℕ) (n : ℕ) → ordinary_at fresh text ≡ Err Unclosed → length text ≡ n → ReadsFault fresh text 2 0 n
 open_placed fresh text n h e = record {
@@ -217,8 +217,8 @@ read_hash : (fresh : Bool) (w : List ℕ) → is_no_comment fresh w ≡ true →
 unfolding hash_at
 read_hash fresh w h = rw h refl
 
-read_none : (b : ℕ) (rest : List ℕ) → one_byte_mark b ≡ None → ((c : ℕ) (more : List ℕ) → rest ≡ c ∷ more → two_byte_mark b c ≡ None) → mark_at b rest ≡ bad 0 1
-unfolding mark_at
+read_none : (b : ℕ) (rest : List ℕ) → one_byte_mark b ≡ None → ((c : ℕ) (more : List ℕ) → rest ≡ c ∷ more → two_byte_mark b c ≡ None) → mark_token_at b rest ≡ bad 0 1
+unfolding mark_token_at
 read_none b [] short long = rw short refl
 read_none b (c ∷ rest) short long = let none = long c rest refl in rw (none, short) refl
 
@@ -227,10 +227,10 @@ stray_again fresh b rest is =
     let slash : b ≢ 47 = λ e. none-some Divide (sym is.short ∙ ap one_byte_mark e ∙ divide_is) in
     other_reads fresh b rest is.blank is.hash slash is.word is.digit is.quote is.dollar ∙ read_none b rest is.short is.long
 
-open_text : (fresh : Bool) (q : ℕ) (ps : List Part) (text : List ℕ) → is_quote q ≡ true → AllByRecursion (IsPart q) ps →
-    (text ≡ q ∷ parts ps) ⊎ (text ≡ q ∷ parts ps ++ 92 ∷ []) → ordinary_at fresh text ≡ Err Unclosed
+open_text : (fresh : Bool) (q : ℕ) (ps : List StringPart) (text : List ℕ) → is_quote q ≡ true → AllByRecursion (IsPart q) ps →
+    (text ≡ q ∷ all_written ps) ⊎ (text ≡ q ∷ all_written ps ++ 92 ∷ []) → ordinary_at fresh text ≡ Err Unclosed
 open_text fresh q ps text is all whole = elim whole [
-  | inl e ↦ ap (ordinary_at fresh) (e ∙ ap (λ (xs : List ℕ). q ∷ xs) (sym (append-nil (parts ps)))) ∙ open_string_again fresh q ps [] is all (open_end q)
+  | inl e ↦ ap (ordinary_at fresh) (e ∙ ap (λ (xs : List ℕ). q ∷ xs) (sym (append-nil (all_written ps)))) ∙ open_string_again fresh q ps [] is all (open_end q)
   | inr e ↦ ap (ordinary_at fresh) e ∙ open_string_again fresh q ps (92 ∷ []) is all (open_slash q (no_slash q is))
 ]
 

@@ -5,16 +5,16 @@ use Rattle.std.proofs.lemmas.List.{drop-drop}
 use Rattle.cfg_tree.specs.declared.token.Variable.{Variable}
 use Rattle.cfg_tree.specs.Variables.{name_len, begins_with, before, before_close, named_at, variable_at}
 use Rattle.cfg_tree.specs.Variables as tree
-use Rattle.cfg_lex.specs.declared.variable.Part.{Part}
-use Rattle.cfg_lex.specs.declared.variable.Form.{Form}
-use Rattle.cfg_lex.specs.Variables.{further, bytes_of, variable_of, with_inner, with_transformation, transformed, named_form, form_at}
+use Rattle.cfg_lex.specs.declared.variable.Stretch.{Stretch}
+use Rattle.cfg_lex.specs.declared.variable.VariableForm.{VariableForm}
+use Rattle.cfg_lex.specs.Variables.{further, bytes_of, variable_of, form_with_inner, form_with_transformation, transformed_form, named_form, form_at}
 
 -- the variable of a form, and how many bytes it takes
-abbrev pub pictured : List ℕ → Option Form → Option (Variable × ℕ)
+abbrev pub pictured : List ℕ → Option VariableForm → Option (Variable × ℕ)
 pictured text None = None
 pictured text (Some f) = Some (variable_of text f, f.len)
 
-inner_is : (n : ℕ) (text : List ℕ) (o : Option ℕ) → tree.with_inner n text o ≡ pictured text (with_inner n o)
+inner_is : (n : ℕ) (text : List ℕ) (o : Option ℕ) → tree.with_inner n text o ≡ pictured text (form_with_inner n o)
 inner_is n text None = refl
 inner_is n text (Some k) = refl
 
@@ -28,10 +28,10 @@ named_is text = elim (cases_Bool (name_len text == 0)) [
   ]
 ]
 
-moved : (text : List ℕ) (p : Part) → bytes_of (drop 1 text) p ≡ bytes_of text (further p)
+moved : (text : List ℕ) (p : Stretch) → bytes_of (drop 1 text) p ≡ bytes_of text (further p)
 moved text p = ap (λ (xs : List ℕ). take p.len xs) (drop-drop p.from 1 text ∙ ap (λ n. drop n text) (omega arith))
 
-moved_inner : (text : List ℕ) (o : Option Part) → option_map (bytes_of (drop 1 text)) o ≡ option_map (bytes_of text) (option_map further o)
+moved_inner : (text : List ℕ) (o : Option Stretch) → option_map (bytes_of (drop 1 text)) o ≡ option_map (bytes_of text) (option_map further o)
 moved_inner text None = refl
 moved_inner text (Some p) = ap (λ (xs : List ℕ). Some xs) (moved text p)
 
@@ -45,8 +45,8 @@ made : (name other : List ℕ) (inner next t : Option (List ℕ)) (n : ℕ) → 
     taken (with_parts name inner t) n ≡ taken (with_parts other next t) n
 made name other inner next t n e h = ap (λ (x : List ℕ). taken (with_parts x inner t) n) e ∙ ap (λ (x : Option (List ℕ)). taken (with_parts other x t) n) h
 
-bracket_is : (text : List ℕ) (o : Option Form) → tree.with_transformation text (pictured (drop 1 text) o) ≡ pictured text (transformed text o)
-unfolding with_transformation
+bracket_is : (text : List ℕ) (o : Option VariableForm) → tree.with_transformation text (pictured (drop 1 text) o) ≡ pictured text (transformed_form text o)
+unfolding form_with_transformation
 bracket_is text None = refl
 bracket_is text (Some f) =
     let k = before 125 (drop (f.len + 2) text) in

@@ -7,7 +7,7 @@ use Rattle.cfg_tree.specs.declared.token.Variable.{Variable}
 use Rattle.cfg_tree.specs.Variables.{before, begins_with, variable_at, pieces_in, pieces_of, behind_variable}
 use Rattle.cfg_tree.specs.Variables as tree
 use Rattle.cfg_lex.specs.declared.piece.Piece.{Piece}
-use Rattle.cfg_lex.specs.declared.variable.Form.{Form}
+use Rattle.cfg_lex.specs.declared.variable.VariableForm.{VariableForm}
 use Rattle.cfg_lex.specs.Variables.{form_at}
 use Rattle.cfg_lex.specs.Pieces.{as_piece, variable_piece, first_piece}
 use Rattle.cfg_lex.proofs.PictureLaw.{pictured, form_is}
@@ -52,7 +52,7 @@ behind_first text (Some r) = in_front r.0 (pieces_of (drop r.1 text))
 enough_left : (n : ℕ) (text : List ℕ) → length text ≤ n → pieces_in n text ≡ pieces_of text
 enough_left n text le = enough n (length text) text le (omega arith)
 
-variable_step : (c : ℕ) (cs : List ℕ) (o : Option Form) → behind_variable (pieces_in (length cs)) cs (pictured cs o) ≡ behind_first (c ∷ cs) (variable_piece cs o)
+variable_step : (c : ℕ) (cs : List ℕ) (o : Option VariableForm) → behind_variable (pieces_in (length cs)) cs (pictured cs o) ≡ behind_first (c ∷ cs) (variable_piece cs o)
 variable_step c cs None = refl
 variable_step c cs (Some f) =
     let k = length-drop f.len cs in

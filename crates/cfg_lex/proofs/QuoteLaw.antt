@@ -5,7 +5,7 @@ use Rattle.std.specs.List.{AllByRecursion}
 use Rattle.std.proofs.lemmas.Bool.{cases_Bool, cases_eq, eq-eqb, ne_eqb}
 use Rattle.std.proofs.lemmas.Option.{same_Some, none-some}
 use Rattle.cfg_lex.specs.Strings.{is_escape, escaped, before_quote, is_bad, bad_escape, unescaped}
-use Rattle.cfg_lex.specs.Tokens.{Part, Itself, Escaped, written, meant, IsPart, IsKnown, parts}
+use Rattle.cfg_lex.specs.Tokens.{StringPart, Itself, Escaped, written, meant, IsPart, IsKnown, all_written}
 use Rattle.cfg_lex.proofs.EndLaw.{map_some}
 use Rattle.cfg_lex.proofs.Quotes.{closes, pair, goes, nowhere, bad, known}
 
@@ -23,16 +23,16 @@ slash_no q h = ne_eqb 92 q (λ e. h (sym e))
 
 -- ---- the quote that closes
 
-pub quote_again : (q : ℕ) (ps : List Part) (rest : List ℕ) → q ≢ 92 → AllByRecursion (IsPart q) ps →
-    before_quote q (parts ps ++ q ∷ rest) ≡ Some (length (parts ps))
+pub quote_again : (q : ℕ) (ps : List StringPart) (rest : List ℕ) → q ≢ 92 → AllByRecursion (IsPart q) ps →
+    before_quote q (all_written ps ++ q ∷ rest) ≡ Some (length (all_written ps))
 quote_again q [] rest n a = closes q q rest (eq-eqb q q refl)
 quote_again q (Itself b ∷ ps) rest n a =
     goes q b _ (ne_eqb _ _ a.0.0) (ne_eqb _ _ a.0.1) ∙ ones _ _ _ (quote_again q ps rest n a.1) (omega arith)
 quote_again q (Escaped b ∷ ps) rest n a =
     pair q _ (slash_no q n) ∙ twos _ _ _ (quote_again q ps rest n a.1) (omega arith)
 
-pub open_again : (q : ℕ) (ps : List Part) (tail : List ℕ) → q ≢ 92 → AllByRecursion (IsPart q) ps → before_quote q tail ≡ None →
-    before_quote q (parts ps ++ tail) ≡ None
+pub open_again : (q : ℕ) (ps : List StringPart) (tail : List ℕ) → q ≢ 92 → AllByRecursion (IsPart q) ps → before_quote q tail ≡ None →
+    before_quote q (all_written ps ++ tail) ≡ None
 open_again q [] tail n a h = h
 open_again q (Itself b ∷ ps) tail n a h =
     goes q b _ (ne_eqb _ _ a.0.0) (ne_eqb _ _ a.0.1) ∙ no_ones 1 _ (open_again q ps tail n a.1 h)
@@ -45,10 +45,10 @@ pub open_slash : (q : ℕ) → q ≢ 92 → before_quote q (92 ∷ []) ≡ None
 open_slash q n = pair q [] (slash_no q n) ∙ no_ones 2 _ (nowhere q)
 
 pub record Closed (q : ℕ) (text : List ℕ) (k : ℕ) : Type 0 where
-  pub ps : List Part
+  pub ps : List StringPart
   pub rest : List ℕ
-  pub whole : text ≡ parts ps ++ q ∷ rest
-  pub len : k ≡ length (parts ps)
+  pub whole : text ≡ all_written ps ++ q ∷ rest
+  pub len : k ≡ length (all_written ps)
   pub all : AllByRecursion (IsPart q) ps
 
 closed_here : (q b : ℕ) (text : List ℕ) (k : ℕ) → b ≡ q → before_quote q (b ∷ text) ≡ Some k → Closed q (b ∷ text) k
@@ -101,16 +101,16 @@ quote_taken q (b ∷ c ∷ text) k h = elim (cases_eq b q) [
 
 -- a string that the text doesn't close
 pub record Open (q : ℕ) (text : List ℕ) : Type 0 where
-  pub ps : List Part
-  pub whole : (text ≡ parts ps) ⊎ (text ≡ parts ps ++ 92 ∷ [])
+  pub ps : List StringPart
+  pub whole : (text ≡ all_written ps) ⊎ (text ≡ all_written ps ++ 92 ∷ [])
   pub all : AllByRecursion (IsPart q) ps
 
-more_open : (q : ℕ) (p : Part) (text : List ℕ) → IsPart q p → Open q text → Open q (written p ++ text)
+more_open : (q : ℕ) (p : StringPart) (text : List ℕ) → IsPart q p → Open q text → Open q (written p ++ text)
 more_open q p text is r = record {
   ps = p ∷ r.ps;
   whole = elim r.whole [
     | inl e ↦ inl (ap (λ (xs : List ℕ). written p ++ xs) e)
-    | inr e ↦ inr (ap (λ (xs : List ℕ). written p ++ xs) e ∙ sym (append_assoc (written p) (parts r.ps) (92 ∷ [])))
+    | inr e ↦ inr (ap (λ (xs : List ℕ). written p ++ xs) e ∙ sym (append_assoc (written p) (all_written r.ps) (92 ∷ [])))
   ];
   all = (is, r.all);
 }
@@ -161,57 +161,57 @@ nothing_bad : bad_escape [] ≡ None
 unfolding bad_escape
 nothing_bad = refl
 
-pub known_again : (q : ℕ) (ps : List Part) → AllByRecursion (IsPart q) ps → AllByRecursion IsKnown ps → bad_escape (parts ps) ≡ None
+pub known_again : (q : ℕ) (ps : List StringPart) → AllByRecursion (IsPart q) ps → AllByRecursion IsKnown ps → bad_escape (all_written ps) ≡ None
 known_again q [] a k = nothing_bad
-known_again q (Itself b ∷ ps) a k = bad_later b (parts ps) a.0.1 ∙ no_ones 1 _ (known_again q ps a.1 k.1)
-known_again q (Escaped b ∷ ps) a k = good_later b (parts ps) k.0 ∙ no_ones 2 _ (known_again q ps a.1 k.1)
+known_again q (Itself b ∷ ps) a k = bad_later b (all_written ps) a.0.1 ∙ no_ones 1 _ (known_again q ps a.1 k.1)
+known_again q (Escaped b ∷ ps) a k = good_later b (all_written ps) k.0 ∙ no_ones 2 _ (known_again q ps a.1 k.1)
 
-pub bad_again : (q : ℕ) (ps more : List Part) (b : ℕ) → AllByRecursion (IsPart q) (ps ++ Escaped b ∷ more) → AllByRecursion IsKnown ps →
-    is_escape b ≡ false → bad_escape (parts (ps ++ Escaped b ∷ more)) ≡ Some (length (parts ps))
-bad_again q [] more b a k h = bad 92 b (parts more) (bad_is b h)
+pub bad_again : (q : ℕ) (ps more : List StringPart) (b : ℕ) → AllByRecursion (IsPart q) (ps ++ Escaped b ∷ more) → AllByRecursion IsKnown ps →
+    is_escape b ≡ false → bad_escape (all_written (ps ++ Escaped b ∷ more)) ≡ Some (length (all_written ps))
+bad_again q [] more b a k h = bad 92 b (all_written more) (bad_is b h)
 bad_again q (Itself c ∷ ps) more b a k h = bad_later c _ a.0.1 ∙ ones _ _ _ (bad_again q ps more b a.1 k.1 h) (omega arith)
 bad_again q (Escaped c ∷ ps) more b a k h = good_later c _ k.0 ∙ twos _ _ _ (bad_again q ps more b a.1 k.1 h) (omega arith)
 
-pub known_taken : (q : ℕ) (ps : List Part) → AllByRecursion (IsPart q) ps → bad_escape (parts ps) ≡ None → AllByRecursion IsKnown ps
+pub known_taken : (q : ℕ) (ps : List StringPart) → AllByRecursion (IsPart q) ps → bad_escape (all_written ps) ≡ None → AllByRecursion IsKnown ps
 known_taken q [] a h = tt
-known_taken q (Itself b ∷ ps) a h = (tt, known_taken q ps a.1 (some_one 1 _ (sym (bad_later b (parts ps) a.0.1) ∙ h)))
+known_taken q (Itself b ∷ ps) a h = (tt, known_taken q ps a.1 (some_one 1 _ (sym (bad_later b (all_written ps) a.0.1) ∙ h)))
 known_taken q (Escaped b ∷ ps) a h = elim (cases_Bool (is_escape b)) [
-  | inl t ↦ (t, known_taken q ps a.1 (some_one 2 _ (sym (good_later b (parts ps) t) ∙ h)))
-  | inr f ↦ absurd (none-some 0 (sym h ∙ bad 92 b (parts ps) (bad_is b f)))
+  | inl t ↦ (t, known_taken q ps a.1 (some_one 2 _ (sym (good_later b (all_written ps) t) ∙ h)))
+  | inr f ↦ absurd (none-some 0 (sym h ∙ bad 92 b (all_written ps) (bad_is b f)))
 ]
 
 -- the first bad escape among these parts
-pub record FirstBad (ps : List Part) (j : ℕ) : Type 0 where
-  pub front : List Part
+pub record FirstBad (ps : List StringPart) (j : ℕ) : Type 0 where
+  pub front : List StringPart
   pub b : ℕ
-  pub more : List Part
+  pub more : List StringPart
   pub whole : ps ≡ front ++ Escaped b ∷ more
   pub known : AllByRecursion IsKnown front
   pub is_bad : is_escape b ≡ false
-  pub len : j ≡ length (parts front)
+  pub len : j ≡ length (all_written front)
 
-more_bad : (p : Part) (ps : List Part) (j m : ℕ) → IsKnown p → j ≡ length (written p) + m → FirstBad ps m → FirstBad (p ∷ ps) j
+more_bad : (p : StringPart) (ps : List StringPart) (j m : ℕ) → IsKnown p → j ≡ length (written p) + m → FirstBad ps m → FirstBad (p ∷ ps) j
 more_bad p ps j m is e r = record {
   front = p ∷ r.front;
   b = r.b;
   more = r.more;
-  whole = ap (λ (xs : List Part). p ∷ xs) r.whole;
+  whole = ap (λ (xs : List StringPart). p ∷ xs) r.whole;
   known = (is, r.known);
   is_bad = r.is_bad;
-  len = omega (arith, e, r.len, length-append (written p) (parts r.front));
+  len = omega (arith, e, r.len, length-append (written p) (all_written r.front));
 }
 
-pub bad_taken : (q : ℕ) (ps : List Part) (j : ℕ) → AllByRecursion (IsPart q) ps → bad_escape (parts ps) ≡ Some j → FirstBad ps j
+pub bad_taken : (q : ℕ) (ps : List StringPart) (j : ℕ) → AllByRecursion (IsPart q) ps → bad_escape (all_written ps) ≡ Some j → FirstBad ps j
 bad_taken q [] j a h = absurd (none-some j (sym nothing_bad ∙ h))
 bad_taken q (Itself b ∷ ps) j a h =
-    let m = map_some 1 _ j (sym (bad_later b (parts ps) a.0.1) ∙ h) in
+    let m = map_some 1 _ j (sym (bad_later b (all_written ps) a.0.1) ∙ h) in
     more_bad (Itself b) ps j m.0 tt m.2 (bad_taken q ps m.0 a.1 m.1)
 bad_taken q (Escaped b ∷ ps) j a h = elim (cases_Bool (is_escape b)) [
   | inl t ↦
-      let m = map_some 2 _ j (sym (good_later b (parts ps) t) ∙ h) in
+      let m = map_some 2 _ j (sym (good_later b (all_written ps) t) ∙ h) in
       more_bad (Escaped b) ps j m.0 t m.2 (bad_taken q ps m.0 a.1 m.1)
   | inr f ↦
-      let zero_is : 0 ≡ j = same_Some 0 j (sym (bad 92 b (parts ps) (bad_is b f)) ∙ h) in
+      let zero_is : 0 ≡ j = same_Some 0 j (sym (bad 92 b (all_written ps) (bad_is b f)) ∙ h) in
       record { front = []; b = b; more = ps; whole = refl; known = tt; is_bad = f; len = sym zero_is }
 ]
 
@@ -230,7 +230,7 @@ meant_none : unescaped [] ≡ []
 unfolding unescaped
 meant_none = refl
 
-pub meant_again : (q : ℕ) (ps : List Part) → AllByRecursion (IsPart q) ps → unescaped (parts ps) ≡ map meant ps
+pub meant_again : (q : ℕ) (ps : List StringPart) → AllByRecursion (IsPart q) ps → unescaped (all_written ps) ≡ map meant ps
 meant_again q [] a = meant_none
-meant_again q (Itself b ∷ ps) a = meant_later b (parts ps) a.0.1 ∙ ap (λ (xs : List ℕ). b ∷ xs) (meant_again q ps a.1)
-meant_again q (Escaped b ∷ ps) a = meant_pair b (parts ps) ∙ ap (λ (xs : List ℕ). escaped b ∷ xs) (meant_again q ps a.1)
+meant_again q (Itself b ∷ ps) a = meant_later b (all_written ps) a.0.1 ∙ ap (λ (xs : List ℕ). b ∷ xs) (meant_again q ps a.1)
+meant_again q (Escaped b ∷ ps) a = meant_pair b (all_written ps) ∙ ap (λ (xs : List ℕ). escaped b ∷ xs) (meant_again q ps a.1)

@@ -5,20 +5,20 @@ use Rattle.pv_values.specs.declared.refusal.ScriptFault.{ScriptFault}
 use Rattle.pv_values.specs.declared.refusal.ScriptFault.TheVariants.{Refused, NoMemory}
 use Rattle.cfg_tree.specs.declared.token.Token.{Token}
 use Rattle.cfg_tree.specs.declared.token.Lexeme.{Lexeme}
-use Rattle.cfg_lex.specs.declared.context.Context.{Context}
-use Rattle.cfg_lex.specs.declared.context.Context.TheVariants.{Plain}
-use Rattle.cfg_lex.specs.declared.shape.Shape.{Shape}
+use Rattle.cfg_lex.specs.declared.context.TokenContext.{TokenContext}
+use Rattle.cfg_lex.specs.declared.context.TokenContext.TheVariants.{Plain}
+use Rattle.cfg_lex.specs.declared.shape.TokenShape.{TokenShape}
 use Rattle.cfg_lex.specs.declared.shape.Found.{Found}
 use Rattle.cfg_lex.specs.declared.shape.Found.TheVariants as found
 use Rattle.cfg_lex.specs.declared.shape.Wrong.{Wrong}
 use Rattle.cfg_lex.specs.declared.shape.Wrong.TheVariants.{BadByte, Unclosed}
 use Rattle.cfg_lex.specs.Contexts as contexts
 use Rattle.cfg_lex.specs.Shapes.{found_at, lexeme_of, begins_line, refused}
-use Rattle.cfg_lex.specs.Tokens.{IsToken, place, HasTokens, at_the_end, gap, token, FirstFault, here, behind_gap, behind_token, longest, TokensOf, FaultOf, inside, IsFaultOf}
+use Rattle.cfg_lex.specs.Tokens.{IsToken, place_between, HasTokens, at_the_end, gap, token, FirstFault, here, behind_gap, behind_token, longest, TokensOf, FaultOf, inside, IsFaultOf}
 use Rattle.cfg_lex.proofs.FoundLaw.{Finds, found_finds}
 
 -- what was read before is the front of the text's tokens, and no fault stands before this place
-pub record Seen (text : List ℕ) (i : ℕ) (context : Context) (front : List Token) : Type 0 where
+pub record Seen (text : List ℕ) (i : ℕ) (context : TokenContext) (front : List Token) : Type 0 where
   pub short : length text ≤ longest
   pub within : i ≤ length text
   pub tokens : (ts : List Token) → HasTokens text i context ts → HasTokens text 0 Plain (front ++ ts)
@@ -28,19 +28,19 @@ pub seen_first : (text : List ℕ) → length text ≤ longest → Seen text 0 P
 seen_first text short = record { short = short; within = omega arith; tokens = λ ts h. h; fault = λ f h. h }
 
 -- what the code reads at this place
-abbrev pub Read : List ℕ → ℕ → Context → Result Found Wrong → Type 0
+abbrev pub Read : List ℕ → ℕ → TokenContext → Result Found Wrong → Type 0
 Read text i context r = r ≡ found_at (begins_line text i) context (take (length text - i) (drop i text))
 
-read_here : (text : List ℕ) (i : ℕ) (context : Context) (r : Result Found Wrong) → Read text i context r → found_at (begins_line text i) context (drop i text) ≡ r
+read_here : (text : List ℕ) (i : ℕ) (context : TokenContext) (r : Result Found Wrong) → Read text i context r → found_at (begins_line text i) context (drop i text) ≡ r
 read_here text i context r h = let k = rw take_rest at h in sym k
 
-finds_here : (text : List ℕ) (i : ℕ) (context : Context) (r : Result Found Wrong) → i < length text → Read text i context r →
+finds_here : (text : List ℕ) (i : ℕ) (context : TokenContext) (r : Result Found Wrong) → i < length text → Read text i context r →
     Finds (begins_line text i) context (drop i text) r
 finds_here text i context r lt h =
     subst (λ q. Finds (begins_line text i) context (drop i text) q) (read_here text i context r h)
     (found_finds (begins_line text i) context (drop i text) (omega (arith, length-drop i text)))
 
-pub seen_gap : (text : List ℕ) (i : ℕ) (context : Context) (front : List Token) (n : ℕ) → Seen text i context front → i < length text →
+pub seen_gap : (text : List ℕ) (i : ℕ) (context : TokenContext) (front : List Token) (n : ℕ) → Seen text i context front → i < length text →
     Read text i context (Ok (found.Gap n)) → n ≤ length text - i → Seen text (i + n) context front
 seen_gap text i context front n seen lt h le =
     let g = finds_here text i context (Ok (found.Gap n)) lt h in
@@ -53,10 +53,10 @@ seen_gap text i context front n seen lt h le =
       fault = λ f more. seen.fault f (behind_gap text i context _ _ f whole g (subst (λ k. FirstFault text (i + k) context f) (sym len) more));
     }
 
-pub seen_token : (text : List ℕ) (i : ℕ) (context next : Context) (front items : List Token) (s : Shape) (n : ℕ) (x : Lexeme) →
+pub seen_token : (text : List ℕ) (i : ℕ) (context next : TokenContext) (front items : List Token) (s : TokenShape) (n : ℕ) (x : Lexeme) →
     Seen text i context front → i < length text → Read text i context (Ok (found.Token s n)) → n ≤ length text - i →
     x ≡ lexeme_of (take (length text - i) (drop i text)) s n → next ≡ contexts.behind context x →
-    items ≡ front ++ (record { lexeme = x; at = place i (i + n) }) ∷ [] → Seen text (i + n) next items
+    items ≡ front ++ (record { lexeme = x; at = place_between i (i + n) }) ∷ [] → Seen text (i + n) next items
 seen_token text i context next front items s n x seen lt h le is behind added =
     let t = finds_here text i context (Ok (found.Token s n)) lt h in
     let whole : drop i text ≡ take n (drop i text) ++ drop n (drop i text) = sym (take-append-drop n (drop i text)) in
@@ -64,7 +64,7 @@ seen_token text i context next front items s n x seen lt h le is behind added =
     let same : lexeme_of (drop i text) s n ≡ x = let k = rw take_rest at is in sym k in
     let is_token : IsToken context (take n (drop i text)) (drop n (drop i text)) x =
     subst (λ y. IsToken context (take n (drop i text)) (drop n (drop i text)) y) same t in
-    let at : ℕ → Token = λ k. record { lexeme = x; at = place i (i + k) } in
+    let at : ℕ → Token = λ k. record { lexeme = x; at = place_between i (i + k) } in
     let all : (ts : List Token) → items ++ ts ≡ front ++ at n ∷ ts = λ ts. ap (λ us. us ++ ts) added ∙ append_assoc front (at n ∷ []) ts in
     record {
       short = seen.short;
@@ -76,25 +76,25 @@ seen_token text i context next front items s n x seen lt h le is behind added =
           (subst (λ c. FirstFault text (i + length (take n (drop i text))) c f) behind (subst (λ k. FirstFault text (i + k) next f) (sym len) more)));
     }
 
-pub seen_end : (text : List ℕ) (i : ℕ) (context : Context) (front : List Token) → Seen text i context front → length text ≤ i → TokensOf text front
+pub seen_end : (text : List ℕ) (i : ℕ) (context : TokenContext) (front : List Token) → Seen text i context front → length text ≤ i → TokensOf text front
 seen_end text i context front seen le = record {
   short = seen.short;
   tokens = subst (λ us. HasTokens text 0 Plain us) (append-nil front) (seen.tokens [] (at_the_end text i context (drop_all i text le)));
 }
 
 abbrev fault_at : ℕ → ℕ → ℕ → ℕ → ScriptFault
-fault_at kind i from to = Refused kind (place (i + from) (i + to))
+fault_at kind i from to = Refused kind (place_between (i + from) (i + to))
 
-fault_here : (text : List ℕ) (i : ℕ) (context : Context) (w : Wrong) → i ≤ length text → Finds (begins_line text i) context (drop i text) (Err w) →
+fault_here : (text : List ℕ) (i : ℕ) (context : TokenContext) (w : Wrong) → i ≤ length text → Finds (begins_line text i) context (drop i text) (Err w) →
     FirstFault text i context (refused i (length text) w)
 fault_here text i context (BadByte from to) le h = here text i context (drop i text) 1 from to refl h.0 h.1
 fault_here text i context Unclosed le h =
     let p = here text i context (drop i text) 2 0 (length (drop i text)) refl h.0 h.1 in
     let from : i + 0 ≡ i = omega arith in
     let to : i + length (drop i text) ≡ length text = omega (arith, length-drop i text, le) in
-    subst (λ k. FirstFault text i context (Refused 2 (place i k))) to (subst (λ k. FirstFault text i context (Refused 2 (place k (i + length (drop i text))))) from p)
+    subst (λ k. FirstFault text i context (Refused 2 (place_between i k))) to (subst (λ k. FirstFault text i context (Refused 2 (place_between k (i + length (drop i text))))) from p)
 
-pub seen_fault : (text : List ℕ) (i : ℕ) (context : Context) (front : List Token) (w : Wrong) (f : ScriptFault) → Seen text i context front → i < length text →
+pub seen_fault : (text : List ℕ) (i : ℕ) (context : TokenContext) (front : List Token) (w : Wrong) (f : ScriptFault) → Seen text i context front → i < length text →
     Read text i context (Err w) → f ≡ refused i (length text) w → FaultOf text f
 seen_fault text i context front w f seen lt h is =
     let g = finds_here text i context (Err w) lt h in
@@ -107,7 +107,7 @@ fault_of text f h = by_cases f h
     by_cases (Refused kind at) h = h
     by_cases NoMemory h = tt
 
-pub as_read : (text : List ℕ) (i : ℕ) (context : Context) (fresh : Bool) (r : Result Found Wrong) → fresh ≡ begins_line text i →
+pub as_read : (text : List ℕ) (i : ℕ) (context : TokenContext) (fresh : Bool) (r : Result Found Wrong) → fresh ≡ begins_line text i →
     r ≡ found_at fresh context (take (length text - i) (drop i text)) → Read text i context r
 as_read text i context fresh r e h = subst (λ b. r ≡ found_at b context (take (length text - i) (drop i text))) e h
 

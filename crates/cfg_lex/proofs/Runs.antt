@@ -3,16 +3,16 @@ use Rattle.std.proofs.Common.{◌≡◌, ℕ, ◌+◌, ◌<◌, ◌≤◌, true,
 use Rattle.std.proofs.lemmas.List.{drop_more, drop_all}
 use Rattle.std.specs.List.{prefix_len}
 use Rattle.cfg_tree.specs.Variables.{begins_with}
-use Rattle.cfg_lex.specs.declared.bytes.Class.{Class}
-use Rattle.cfg_lex.specs.Bytes.{has}
+use Rattle.cfg_lex.specs.declared.bytes.RunClass.{RunClass}
+use Rattle.cfg_lex.specs.Bytes.{class_has}
 
-pub run_stops : (class : Class) (text : List ℕ) (i : ℕ) → i < length text → has class (get_or text i 0) ≡ false → i + prefix_len (has class) (drop i text) ≡ i
+pub run_stops : (class : RunClass) (text : List ℕ) (i : ℕ) → i < length text → class_has class (get_or text i 0) ≡ false → i + prefix_len (class_has class) (drop i text) ≡ i
 run_stops class text i lt h = let e = drop_more text i 0 lt in rw (e, h) (omega arith)
 
-pub run_goes : (class : Class) (text : List ℕ) (i : ℕ) → i < length text → has class (get_or text i 0) ≡ true → (i + 1) + prefix_len (has class) (drop (i + 1) text) ≡ i + prefix_len (has class) (drop i text)
+pub run_goes : (class : RunClass) (text : List ℕ) (i : ℕ) → i < length text → class_has class (get_or text i 0) ≡ true → (i + 1) + prefix_len (class_has class) (drop (i + 1) text) ≡ i + prefix_len (class_has class) (drop i text)
 run_goes class text i lt h = let e = drop_more text i 0 lt in rw (e, h) (omega arith)
 
-pub run_all : (class : Class) (text : List ℕ) (i : ℕ) → length text ≤ i → i + prefix_len (has class) (drop i text) ≡ i
+pub run_all : (class : RunClass) (text : List ℕ) (i : ℕ) → length text ≤ i → i + prefix_len (class_has class) (drop i text) ≡ i
 run_all class text i le = rw (drop_all i text le) (omega arith)
 
 -- what stands at a place, and behind the end

@@ -7,10 +7,10 @@ use Rattle.std.proofs.lemmas.Option.{same_Some, none-some, cond_some}
 use Rattle.cfg_tree.specs.declared.token.Variable.{Variable}
 use Rattle.cfg_tree.specs.declared.token.Lexeme.TheVariants as lexeme
 use Rattle.cfg_tree.specs.Variables.{begins_name, goes_on, name_len, begins_with, before, before_close, variable_at}
-use Rattle.cfg_lex.specs.declared.variable.Form.{Form}
-use Rattle.cfg_lex.specs.declared.shape.Shape.TheVariants as shape
+use Rattle.cfg_lex.specs.declared.variable.VariableForm.{VariableForm}
+use Rattle.cfg_lex.specs.declared.shape.TokenShape.TheVariants as shape
 use Rattle.cfg_lex.specs.declared.shape.Wrong.TheVariants.{Unclosed}
-use Rattle.cfg_lex.specs.Variables.{opened_behind, closes, variable_of, with_inner, with_transformation, transformed, named_form, form_at, is_cut_off}
+use Rattle.cfg_lex.specs.Variables.{opened_behind, closes, variable_of, form_with_inner, form_with_transformation, transformed_form, named_form, form_at, is_cut_off}
 use Rattle.cfg_lex.proofs.EndLaw.{map_some}
 use Rattle.cfg_lex.proofs.Closings.{closed, ones, open_on}
 use Rattle.cfg_lex.specs.Shapes.{bad, variable_to, dollar_at, ordinary_at, lexeme_of}
@@ -44,37 +44,37 @@ close_within o (c ∷ cs) k h = elim (cases_Bool (closes c o)) [
       omega (arith, r, m.2)
 ]
 
-inner_fits : (n : ℕ) (text : List ℕ) (o : Option ℕ) (f : Form) → before_close 0 (drop (n + 1) text) ≡ o → with_inner n o ≡ Some f → f.len ≤ length text
+inner_fits : (n : ℕ) (text : List ℕ) (o : Option ℕ) (f : VariableForm) → before_close 0 (drop (n + 1) text) ≡ o → form_with_inner n o ≡ Some f → f.len ≤ length text
 inner_fits n text None f e h = absurd (none-some f h)
 inner_fits n text (Some k) f e h =
-    let len : n + k + 2 ≡ f.len = ap (λ (g : Form). g.len) (same_Some _ _ h) in
+    let len : n + k + 2 ≡ f.len = ap (λ (g : VariableForm). g.len) (same_Some _ _ h) in
     let r = close_within 0 (drop (n + 1) text) k e in
     omega (arith, len, r, length-drop (n + 1) text)
 
-named_fits : (text : List ℕ) (f : Form) → named_form text ≡ Some f → f.len ≤ length text
+named_fits : (text : List ℕ) (f : VariableForm) → named_form text ≡ Some f → f.len ≤ length text
 unfolding named_form
 named_fits text f h = elim (cases_Bool (name_len text == 0)) [
   | inl t ↦ absurd (none-some f (rw t at h))
   | inr n ↦ elim (cases_Bool (begins_with 40 (drop (name_len text) text))) [
     | inl t ↦ inner_fits (name_len text) text _ f refl (rw (n, t) at h)
     | inr g ↦
-        let len = ap (λ (x : Form). x.len) (same_Some _ _ (rw (n, g) at h)) in
+        let len = ap (λ (x : VariableForm). x.len) (same_Some _ _ (rw (n, g) at h)) in
         omega (arith, len, name_fits text)
   ]
 ]
 
-bracket_fits : (text : List ℕ) (o : Option Form) (f : Form) → transformed text o ≡ Some f → f.len ≤ length text
-unfolding with_transformation
+bracket_fits : (text : List ℕ) (o : Option VariableForm) (f : VariableForm) → transformed_form text o ≡ Some f → f.len ≤ length text
+unfolding form_with_transformation
 bracket_fits text None f h = absurd (none-some f h)
 bracket_fits text (Some g) f h =
     let c = cond_some _ _ f h in
     let k : ℕ = before 125 (drop (g.len + 2) text) in
     let last = (and_parts _ (begins_with 41 (drop (g.len + 3 + k) text)) c.0).1 in
     let r = begins_within 41 (g.len + 3 + k) text last in
-    let len : g.len + k + 4 ≡ f.len = ap (λ (x : Form). x.len) c.1 in
+    let len : g.len + k + 4 ≡ f.len = ap (λ (x : VariableForm). x.len) c.1 in
     omega (arith, len, r)
 
-pub form_fits : (text : List ℕ) (f : Form) → form_at text ≡ Some f → f.len ≤ length text
+pub form_fits : (text : List ℕ) (f : VariableForm) → form_at text ≡ Some f → f.len ≤ length text
 unfolding form_at
 form_fits text f h = elim (cases_Bool (begins_with 40 text)) [
   | inl t ↦ bracket_fits text (named_form (drop 1 text)) f (rw t at h)
@@ -89,7 +89,7 @@ none_reads fresh text h = elim (cases_Bool (is_cut_off text)) [
   | inr f ↦ rw f (stray_dollar fresh text h f)
 ]
 
-some_reads : (fresh : Bool) (text : List ℕ) (f : Form) → variable_at text ≡ Some (variable_of text f, f.len) → f.len ≤ length text →
+some_reads : (fresh : Bool) (text : List ℕ) (f : VariableForm) → variable_at text ≡ Some (variable_of text f, f.len) → f.len ≤ length text →
     Reads fresh (36 ∷ text) (variable_to text (Some f))
 unfolding lexeme_of
 some_reads fresh text f h le =
@@ -104,17 +104,17 @@ pub dollar_reads : (fresh : Bool) (text : List ℕ) → Reads fresh (36 ∷ text
 unfolding dollar_at
 dollar_reads fresh text = by_cases (form_at text) refl
   where
-    by_cases : (o : Option Form) → form_at text ≡ o → Reads fresh (36 ∷ text) (variable_to text o)
+    by_cases : (o : Option VariableForm) → form_at text ≡ o → Reads fresh (36 ∷ text) (variable_to text o)
     by_cases None e = none_reads fresh text (form_is text ∙ ap (pictured text) e)
     by_cases (Some f) e = some_reads fresh text f (form_is text ∙ ap (pictured text) e) (form_fits text f e)
 
 -- ---- from the relation
 
-read_form : (text : List ℕ) (o : Option Form) → form_at text ≡ o → dollar_at text ≡ variable_to text o
+read_form : (text : List ℕ) (o : Option VariableForm) → form_at text ≡ o → dollar_at text ≡ variable_to text o
 unfolding dollar_at
 read_form text o e = rw e refl
 
-variable_text : (text : List ℕ) (f : Form) (n : ℕ) (v : Variable) → variable_of text f ≡ v → lexeme_of (36 ∷ text) (shape.Variable f) n ≡ lexeme.Variable v
+variable_text : (text : List ℕ) (f : VariableForm) (n : ℕ) (v : Variable) → variable_of text f ≡ v → lexeme_of (36 ∷ text) (shape.Variable f) n ≡ lexeme.Variable v
 unfolding lexeme_of
 variable_text text f n v e = ap (λ (x : Variable). lexeme.Variable x) e
 
@@ -122,7 +122,7 @@ pub variable_again : (fresh : Bool) (w rest : List ℕ) (v : Variable) → varia
     ReadsToken fresh (36 ∷ w ++ rest) (36 ∷ w) (lexeme.Variable v)
 variable_again fresh w rest v h = by_cases (form_at (w ++ rest)) refl
   where
-    by_cases : (o : Option Form) → form_at (w ++ rest) ≡ o → ReadsToken fresh (36 ∷ w ++ rest) (36 ∷ w) (lexeme.Variable v)
+    by_cases : (o : Option VariableForm) → form_at (w ++ rest) ≡ o → ReadsToken fresh (36 ∷ w ++ rest) (36 ∷ w) (lexeme.Variable v)
     by_cases None e = absurd (none-some (v, length w) (sym (form_is (w ++ rest) ∙ ap (pictured (w ++ rest)) e) ∙ h))
     by_cases (Some f) e =
         let same = same_Some _ _ (sym (form_is (w ++ rest) ∙ ap (pictured (w ++ rest)) e) ∙ h) in
@@ -145,7 +145,7 @@ read_stray text e t = rw (e, t) refl
 no_form : (text : List ℕ) → variable_at text ≡ None → form_at text ≡ None
 no_form text h = by_cases (form_at text) refl
   where
-    by_cases : (o : Option Form) → form_at text ≡ o → o ≡ None
+    by_cases : (o : Option VariableForm) → form_at text ≡ o → o ≡ None
     by_cases None e = refl
     by_cases (Some f) e = absurd (none-some (variable_of text f, f.len) (sym h ∙ form_is text ∙ ap (pictured text) e))
 

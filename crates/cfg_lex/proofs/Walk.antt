@@ -9,14 +9,14 @@ use Rattle.pv_values.specs.declared.refusal.ScriptFault.TheVariants.{NoMemory, R
 use Rattle.cfg_tree.specs.declared.token.Token.{Token}
 use Rattle.cfg_tree.specs.declared.token.Lexeme.{Lexeme}
 use Rattle.cfg_tree.specs.declared.setting.Listen.{Listen}
-use Rattle.cfg_lex.specs.declared.context.Context.{Context}
-use Rattle.cfg_lex.specs.declared.context.Context.TheVariants.{Plain}
+use Rattle.cfg_lex.specs.declared.context.TokenContext.{TokenContext}
+use Rattle.cfg_lex.specs.declared.context.TokenContext.TheVariants.{Plain}
 use Rattle.cfg_lex.specs.declared.shape.Found.{Found}
 use Rattle.cfg_lex.specs.declared.shape.Found.TheVariants as found
 use Rattle.cfg_lex.specs.declared.shape.Wrong.{Wrong}
 use Rattle.cfg_lex.specs.Contexts as contexts
 use Rattle.cfg_lex.specs.Shapes.{found_at, lexeme_of, begins_line, refused}
-use Rattle.cfg_lex.specs.Tokens.{IsGap, blank, hash, slashes, bracketed, IsNamed, IsOrdinary, name, word, long_mark, short_mark, number, string, variable, IsListen, NoSpecial, IsToken, block_name, listen, ordinary, IsFault, place, HasTokens, at_the_end, gap, token, FirstFault, here, behind_gap, behind_token, longest, TokensOf, FaultOf, too_long, inside, IsFaultOf}
+use Rattle.cfg_lex.specs.Tokens.{IsBlankOrComment, blank, hash, slashes, bracketed, IsNamed, IsOrdinary, name, word, long_mark, short_mark, number, string, variable, IsListen, NoSpecial, IsToken, block_name, listen, ordinary, IsFault, place_between, HasTokens, at_the_end, gap, token, FirstFault, here, behind_gap, behind_token, longest, TokensOf, FaultOf, too_long, inside, IsFaultOf}
 use Rattle.cfg_lex.specs.Tokens as tokens_of
 use Rattle.cfg_lex.proofs.FoundLaw.{gap_found, token_found, fault_found}
 use Rattle.cfg_lex.proofs.OrdinaryLaw.{fault_again}
@@ -31,45 +31,45 @@ abbrev fault : ScriptFault → Answer
 fault f = Err f
 
 abbrev made : Lexeme → ℕ → ℕ → Token
-made x i n = record { lexeme = x; at = place i (i + n) }
+made x i n = record { lexeme = x; at = place_between i (i + n) }
 
 abbrev in_front : Token → Answer → Answer
 in_front t (Ok ts) = Ok (t ∷ ts)
 in_front t (Err f) = Err f
 
 -- the answer behind what is found at the place i
-abbrev behind_found : (ℕ → Context → Answer) → List ℕ → ℕ → Context → Result Found Wrong → Answer
+abbrev behind_found : (ℕ → TokenContext → Answer) → List ℕ → ℕ → TokenContext → Result Found Wrong → Answer
 behind_found more text i context (Ok (found.Gap n)) = more (i + n) context
 behind_found more text i context (Ok (found.Token s n)) =
     in_front (made (lexeme_of (drop i text) s n) i n) (more (i + n) (contexts.behind context (lexeme_of (drop i text) s n)))
 behind_found more text i context (Err w) = Err (refused i (length text) w)
 
-abbrev at_place : (ℕ → Context → Answer) → List ℕ → ℕ → Context → List ℕ → Answer
+abbrev at_place : (ℕ → TokenContext → Answer) → List ℕ → ℕ → TokenContext → List ℕ → Answer
 at_place more text i context [] = Ok []
 at_place more text i context (c ∷ cs) = behind_found more text i context (found_at (begins_line text i) context (c ∷ cs))
 
 -- the answer from the place i on, by at most so many steps
-unfoldable walk : ℕ → List ℕ → ℕ → Context → Answer
+unfoldable walk : ℕ → List ℕ → ℕ → TokenContext → Answer
 walk zero text i context = Err NoMemory
 walk (suc n) text i context = at_place (walk n text) text i context (drop i text)
 
-walk_end : (n : ℕ) (text : List ℕ) (i : ℕ) (context : Context) → drop i text ≡ [] → walk (suc n) text i context ≡ tokens []
+walk_end : (n : ℕ) (text : List ℕ) (i : ℕ) (context : TokenContext) → drop i text ≡ [] → walk (suc n) text i context ≡ tokens []
 unfolding walk
 walk_end n text i context h = rw h refl
 
-at_some : (more : ℕ → Context → Answer) (text : List ℕ) (i : ℕ) (context : Context) (xs : List ℕ) (r : Result Found Wrong) → 0 < length xs →
+at_some : (more : ℕ → TokenContext → Answer) (text : List ℕ) (i : ℕ) (context : TokenContext) (xs : List ℕ) (r : Result Found Wrong) → 0 < length xs →
     found_at (begins_line text i) context xs ≡ r → at_place more text i context xs ≡ behind_found more text i context r
 at_some more text i context [] r some h = absurd (omega arith)
 at_some more text i context (c ∷ cs) r some h = ap (behind_found more text i context) h
 
-walk_found : (n : ℕ) (text : List ℕ) (i : ℕ) (context : Context) (xs : List ℕ) (r : Result Found Wrong) → drop i text ≡ xs → 0 < length xs →
+walk_found : (n : ℕ) (text : List ℕ) (i : ℕ) (context : TokenContext) (xs : List ℕ) (r : Result Found Wrong) → drop i text ≡ xs → 0 < length xs →
     found_at (begins_line text i) context xs ≡ r → walk (suc n) text i context ≡ behind_found (walk n text) text i context r
 unfolding walk
 walk_found n text i context xs r e some h = ap (at_place (walk n text) text i context) e ∙ at_some (walk n text) text i context xs r some h
 
 -- ---- each step has a byte
 
-pub gap_some : (fresh : Bool) (w rest : List ℕ) → IsGap fresh w rest → 0 < length w
+pub gap_some : (fresh : Bool) (w rest : List ℕ) → IsBlankOrComment fresh w rest → 0 < length w
 gap_some _ _ _ (blank fresh b rest h) = omega arith
 gap_some _ _ _ (hash fresh w rest is lacks) = omega arith
 gap_some _ _ _ (slashes fresh w rest is) = omega arith
@@ -91,18 +91,18 @@ ordinary_some _ _ _ (variable w rest v h) = omega arith
 listen_some : (w rest : List ℕ) (l : Listen) → IsListen w rest l → 0 < length w
 listen_some w rest l is = let e = ap length is.whole in omega (arith, e)
 
-pub token_some : (context : Context) (w rest : List ℕ) (x : Lexeme) → IsToken context w rest x → 0 < length w
+pub token_some : (context : TokenContext) (w rest : List ℕ) (x : Lexeme) → IsToken context w rest x → 0 < length w
 token_some _ _ _ _ (block_name w rest some is) = some
 token_some _ _ _ _ (listen w rest l is) = listen_some w rest l is
 token_some _ _ _ _ (ordinary context w rest x none is) = ordinary_some w rest x is
 
 -- a walk goes on behind a gap, and behind a token
-walk_gap : (n : ℕ) (text : List ℕ) (i : ℕ) (context : Context) (w rest : List ℕ) → drop i text ≡ w ++ rest → IsGap (begins_line text i) w rest →
+walk_gap : (n : ℕ) (text : List ℕ) (i : ℕ) (context : TokenContext) (w rest : List ℕ) → drop i text ≡ w ++ rest → IsBlankOrComment (begins_line text i) w rest →
     walk (suc n) text i context ≡ walk n text (i + length w) context
 walk_gap n text i context w rest e g =
     walk_found n text i context (w ++ rest) _ e (omega (arith, gap_some _ w rest g, length-append w rest)) (gap_found (begins_line text i) context w rest g)
 
-walk_token : (n : ℕ) (text : List ℕ) (i : ℕ) (context : Context) (w rest : List ℕ) (x : Lexeme) → drop i text ≡ w ++ rest → IsToken context w rest x →
+walk_token : (n : ℕ) (text : List ℕ) (i : ℕ) (context : TokenContext) (w rest : List ℕ) (x : Lexeme) → drop i text ≡ w ++ rest → IsToken context w rest x →
     walk (suc n) text i context ≡ in_front (made x i (length w)) (walk n text (i + length w) (contexts.behind context x))
 walk_token n text i context w rest x e is =
     let r = token_found (begins_line text i) context w rest x is in
@@ -113,10 +113,10 @@ walk_token n text i context w rest x e is =
 pub left : (text : List ℕ) (i : ℕ) (w rest : List ℕ) → drop i text ≡ w ++ rest → length (drop i text) ≡ length w + length (drop (i + length w) text)
 left text i w rest e = let b = behind text i w rest e in ap length e ∙ length-append w rest ∙ ap (λ (xs : List ℕ). length w + length xs) (sym b)
 
-one_less : (n : ℕ) (text : List ℕ) (i : ℕ) (context : Context) → 0 < n → walk n text i context ≡ walk (suc (n - 1)) text i context
+one_less : (n : ℕ) (text : List ℕ) (i : ℕ) (context : TokenContext) → 0 < n → walk n text i context ≡ walk (suc (n - 1)) text i context
 one_less n text i context h = ap (λ k. walk k text i context) (omega arith)
 
-walk_tokens : (text : List ℕ) (i : ℕ) (context : Context) (ts : List Token) → HasTokens text i context ts → (n : ℕ) → length (drop i text) < n →
+walk_tokens : (text : List ℕ) (i : ℕ) (context : TokenContext) (ts : List Token) → HasTokens text i context ts → (n : ℕ) → length (drop i text) < n →
     walk n text i context ≡ tokens ts
 walk_tokens _ _ _ _ (at_the_end text i context h) n lt = one_less n text i context (omega arith) ∙ walk_end (n - 1) text i context h
 walk_tokens _ _ _ _ (gap text i context w rest ts e g more) n lt =
@@ -148,7 +148,7 @@ fault_some _ _ _ _ _ (tokens_of.stray_hash fresh w h) = omega arith
 fault_some _ _ _ _ _ (tokens_of.stray_dollar fresh w h f) = omega arith
 fault_some _ _ _ _ _ (tokens_of.stray_byte fresh b rest is) = omega arith
 
-walk_fault : (text : List ℕ) (i : ℕ) (context : Context) (f : ScriptFault) → FirstFault text i context f → (n : ℕ) → length (drop i text) < n →
+walk_fault : (text : List ℕ) (i : ℕ) (context : TokenContext) (f : ScriptFault) → FirstFault text i context f → (n : ℕ) → length (drop i text) < n →
     walk n text i context ≡ fault f
 walk_fault _ _ _ _ (here text i context w kind from to e none is) n lt =
     let r = fault_again (begins_line text i) w kind from to is in
@@ -200,14 +200,14 @@ fault_same f g e = cc
 
 -- which of the two it is
 data Cause : List ℕ → ScriptFault → Type 0 where
-  long : (text : List ℕ) → longest < length text → Cause text (Refused 13 (place longest (length text)))
+  long : (text : List ℕ) → longest < length text → Cause text (Refused 13 (place_between longest (length text)))
   fits : (text : List ℕ) (f : ScriptFault) → length text ≤ longest → walk (suc (length text)) text 0 Plain ≡ fault f → Cause text f
 
 cause : (text : List ℕ) (f : ScriptFault) → FaultOf text f → Cause text f
 cause _ _ (too_long text h) = long text h
 cause _ _ (inside text f short h) = fits text f short (walk_fault text 0 Plain f h (suc (length text)) (first_len text))
 
-is_fault : (text : List ℕ) (f : ScriptFault) → Cause text f → (length text ≤ longest → whole text ≡ fault f) × (longest < length text → f ≡ Refused 13 (place longest (length text)))
+is_fault : (text : List ℕ) (f : ScriptFault) → Cause text f → (length text ≤ longest → whole text ≡ fault f) × (longest < length text → f ≡ Refused 13 (place_between longest (length text)))
 is_fault _ _ (long text h) = (λ short. absurd (omega (arith, short, h)), λ more. refl)
 is_fault _ _ (fits text f short h) = (λ less. h, λ more. absurd (omega (arith, short, more)))
 

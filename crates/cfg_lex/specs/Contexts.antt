@@ -7,32 +7,32 @@ use Rattle.cfg_tree.specs.declared.token.Keyword as keyword
 use Rattle.cfg_tree.specs.declared.token.Keyword.TheVariants as word
 use Rattle.cfg_tree.specs.declared.token.Mark as marks
 use Rattle.cfg_tree.specs.declared.token.Mark.TheVariants as mark
-use Rattle.cfg_lex.specs.declared.context.Context.{Context}
-use Rattle.cfg_lex.specs.declared.context.Context.TheVariants.{Plain, BehindListen, BehindRoute, Address, BlockName}
+use Rattle.cfg_lex.specs.declared.context.TokenContext.{TokenContext}
+use Rattle.cfg_lex.specs.declared.context.TokenContext.TheVariants.{Plain, BehindListen, BehindRoute, Address, BlockName}
 
 -- behind the name `listen`
-abbrev pub behind_name : List ℕ → Context
+abbrev pub behind_name : List ℕ → TokenContext
 behind_name name = if bytes_eq name (codes "listen") then BehindListen else Plain
 
 -- behind the word `route`
-abbrev pub behind_keyword : keyword.Keyword → Context
-behind_keyword word.Route = BehindRoute
-behind_keyword _ = Plain
+abbrev pub context_behind_keyword : keyword.Keyword → TokenContext
+context_behind_keyword word.Route = BehindRoute
+context_behind_keyword _ = Plain
 
 -- a block's name may stand behind `[`
-abbrev pub behind_mark : Context → marks.Mark → Context
-behind_mark _ mark.OpenSquare = BlockName
+abbrev pub context_behind_mark : TokenContext → marks.Mark → TokenContext
+context_behind_mark _ mark.OpenSquare = BlockName
 -- and behind the `(` that follows `route`
-behind_mark BehindRoute mark.OpenRound = BlockName
+context_behind_mark BehindRoute mark.OpenRound = BlockName
 -- LISTEN may stand behind the name `listen` and `=`
-behind_mark BehindListen mark.Assign = Address
-behind_mark _ _ = Plain
+context_behind_mark BehindListen mark.Assign = Address
+context_behind_mark _ _ = Plain
 
 -- what is allowed behind a token, by what was allowed at it
-unfoldable pub behind : Context → Lexeme → Context
+unfoldable pub behind : TokenContext → Lexeme → TokenContext
 behind context (lexeme.Name name) = behind_name name
-behind context (lexeme.Keyword k) = behind_keyword k
-behind context (lexeme.Mark m) = behind_mark context m
+behind context (lexeme.Keyword k) = context_behind_keyword k
+behind context (lexeme.Mark m) = context_behind_mark context m
 behind context (lexeme.Number n) = Plain
 behind context (lexeme.String s) = Plain
 behind context (lexeme.Variable v) = Plain

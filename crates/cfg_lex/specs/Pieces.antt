@@ -4,7 +4,7 @@ use Rattle.cfg_tree.specs.Variables.{before, begins_with}
 use Rattle.cfg_tree.specs.Variables as tree
 use Rattle.cfg_lex.specs.declared.piece.Piece.{Piece}
 use Rattle.cfg_lex.specs.declared.piece.Piece.TheVariants.{Plain, Of}
-use Rattle.cfg_lex.specs.declared.variable.Form.{Form}
+use Rattle.cfg_lex.specs.declared.variable.VariableForm.{VariableForm}
 use Rattle.cfg_lex.specs.Variables.{form_at, variable_of}
 
 -- a piece, as the meaning of scripts has it
@@ -12,7 +12,7 @@ abbrev pub as_piece : Piece → tree.Piece
 as_piece (Plain text) = tree.Plain text
 as_piece (Of v) = tree.Of v
 
-abbrev pub variable_piece : List ℕ → Option Form → Option (tree.Piece × ℕ)
+abbrev pub variable_piece : List ℕ → Option VariableForm → Option (tree.Piece × ℕ)
 variable_piece text None = None
 variable_piece text (Some f) = Some (tree.Of (variable_of text f), f.len + 1)
 
@@ -24,5 +24,5 @@ first_piece text =
     else if begins_with 36 (drop 1 text) then Some (tree.Plain (36 ∷ []), 2)
     else variable_piece (drop 1 text) (form_at (drop 1 text))
 
-abbrev pub shown : Piece × ℕ → tree.Piece × ℕ
-shown r = (as_piece r.0, r.1)
+abbrev pub piece_shown : Piece × ℕ → tree.Piece × ℕ
+piece_shown r = (as_piece r.0, r.1)

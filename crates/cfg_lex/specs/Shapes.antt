@@ -13,21 +13,21 @@ use Rattle.cfg_tree.specs.declared.token.Mark as marks
 use Rattle.cfg_tree.specs.declared.token.Mark.TheVariants.{Divide}
 use Rattle.cfg_tree.specs.declared.setting.Listen.{Listen}
 use Rattle.cfg_tree.specs.Variables.{begins_name, name_len, before, begins_with}
-use Rattle.cfg_lex.specs.declared.context.Context.{Context}
-use Rattle.cfg_lex.specs.declared.context.Context.TheVariants as context
-use Rattle.cfg_lex.specs.declared.shape.Shape.{Shape}
-use Rattle.cfg_lex.specs.declared.shape.Shape.TheVariants as shape
+use Rattle.cfg_lex.specs.declared.context.TokenContext.{TokenContext}
+use Rattle.cfg_lex.specs.declared.context.TokenContext.TheVariants as context
+use Rattle.cfg_lex.specs.declared.shape.TokenShape.{TokenShape}
+use Rattle.cfg_lex.specs.declared.shape.TokenShape.TheVariants as shape
 use Rattle.cfg_lex.specs.declared.shape.Found.{Found}
 use Rattle.cfg_lex.specs.declared.shape.Found.TheVariants.{Gap, Token}
 use Rattle.cfg_lex.specs.declared.shape.Wrong.{Wrong}
 use Rattle.cfg_lex.specs.declared.shape.Wrong.TheVariants.{BadByte, Unclosed}
-use Rattle.cfg_lex.specs.declared.variable.Form.{Form}
+use Rattle.cfg_lex.specs.declared.variable.VariableForm.{VariableForm}
 use Rattle.cfg_lex.specs.Bytes.{is_blank, is_block_byte, is_quote}
 use Rattle.cfg_lex.specs.Comments.{is_no_comment, before_end}
-use Rattle.cfg_lex.specs.Words.{keyword_of}
+use Rattle.cfg_lex.specs.Words.{keyword_of_word}
 use Rattle.cfg_lex.specs.Marks.{two_byte_mark, one_byte_mark}
 use Rattle.cfg_lex.specs.Strings.{before_quote, bad_escape, unescaped}
-use Rattle.cfg_lex.specs.Variables.{form_at, variable_of, is_cut_off, IsWithin}
+use Rattle.cfg_lex.specs.Variables.{form_at, variable_of, is_cut_off, FormIsWithin}
 use Rattle.cfg_lex.specs.Listens.{listen_at}
 
 abbrev pub bad : ℕ → ℕ → Result Found Wrong
@@ -47,19 +47,19 @@ slash_at text =
     if begins_with 47 text then Ok (Gap (2 + before 10 (drop 1 text)))
     else if begins_with 42 text then comment_to (before_end (drop 1 text)) else Ok (Token (shape.Mark Divide) 1)
 
-abbrev pub word_shape : Option keyword.Keyword → Shape
+abbrev pub word_shape : Option keyword.Keyword → TokenShape
 word_shape None = shape.Name
 word_shape (Some k) = shape.Keyword k
 
-unfoldable pub word_at : List ℕ → Result Found Wrong
-word_at text = let n = name_len text in Ok (Token (word_shape (keyword_of (take n text))) n)
+unfoldable pub word_token_at : List ℕ → Result Found Wrong
+word_token_at text = let n = name_len text in Ok (Token (word_shape (keyword_of_word (take n text))) n)
 
 abbrev pub number_to : ℕ → Option ℤ → Result Found Wrong
 number_to n None = bad 0 n
 number_to n (Some z) = Ok (Token (shape.Number z) n)
 
-unfoldable pub number_at : List ℕ → Result Found Wrong
-number_at text = let n = prefix_len is_ascii_digit text in number_to n (number_in (take n text))
+unfoldable pub number_token_at : List ℕ → Result Found Wrong
+number_token_at text = let n = prefix_len is_ascii_digit text in number_to n (number_in (take n text))
 
 abbrev pub string_of : ℕ → Option ℕ → Result Found Wrong
 string_of k None = Ok (Token shape.String (k + 2))
@@ -73,7 +73,7 @@ string_to text (Some k) = string_of k (bad_escape (take k text))
 unfoldable pub string_at : ℕ → List ℕ → Result Found Wrong
 string_at q text = string_to text (before_quote q text)
 
-abbrev pub variable_to : List ℕ → Option Form → Result Found Wrong
+abbrev pub variable_to : List ℕ → Option VariableForm → Result Found Wrong
 variable_to text None = if is_cut_off text then Err Unclosed else bad 0 1
 variable_to text (Some f) = Ok (Token (shape.Variable f) (f.len + 1))
 
@@ -90,9 +90,9 @@ two_bytes a None = one_byte (one_byte_mark a)
 two_bytes a (Some m) = Ok (Token (shape.Mark m) 2)
 
 -- an operator or a bracket, the longest
-unfoldable pub mark_at : ℕ → List ℕ → Result Found Wrong
-mark_at a [] = one_byte (one_byte_mark a)
-mark_at a (b ∷ text) = two_bytes a (two_byte_mark a b)
+unfoldable pub mark_token_at : ℕ → List ℕ → Result Found Wrong
+mark_token_at a [] = one_byte (one_byte_mark a)
+mark_token_at a (b ∷ text) = two_bytes a (two_byte_mark a b)
 
 -- what may stand at every place
 unfoldable pub ordinary_at : Bool → List ℕ → Result Found Wrong
@@ -101,11 +101,11 @@ ordinary_at fresh (c ∷ text) =
     if is_blank c then Ok (Gap 1)
     else if c == 35 then hash_at fresh text
     else if c == 47 then slash_at text
-    else if begins_name c then word_at (c ∷ text)
-    else if is_ascii_digit c then number_at (c ∷ text)
+    else if begins_name c then word_token_at (c ∷ text)
+    else if is_ascii_digit c then number_token_at (c ∷ text)
     else if is_quote c then string_at c text
     else if c == 36 then dollar_at text
-    else mark_at c text
+    else mark_token_at c text
 
 abbrev pub block_name_or : ℕ → Result Found Wrong → Result Found Wrong
 block_name_or n other = if n == 0 then other else Ok (Token shape.BlockName n)
@@ -115,7 +115,7 @@ listen_or None other = other
 listen_or (Some l) other = Ok (Token (shape.Listen l.0) l.1)
 
 -- and what may stand here alone
-unfoldable pub found_at : Bool → Context → List ℕ → Result Found Wrong
+unfoldable pub found_at : Bool → TokenContext → List ℕ → Result Found Wrong
 found_at fresh context.BlockName text = block_name_or (prefix_len is_block_byte text) (ordinary_at fresh text)
 found_at fresh context.Address text = listen_or (listen_at text) (ordinary_at fresh text)
 found_at fresh context.Plain text = ordinary_at fresh text
@@ -123,7 +123,7 @@ found_at fresh context.BehindListen text = ordinary_at fresh text
 found_at fresh context.BehindRoute text = ordinary_at fresh text
 
 -- the token of this shape and length at the beginning of a text
-unfoldable pub lexeme_of : List ℕ → Shape → ℕ → Lexeme
+unfoldable pub lexeme_of : List ℕ → TokenShape → ℕ → Lexeme
 lexeme_of text shape.Name n = lexeme.Name (take n text)
 lexeme_of text (shape.Keyword k) n = lexeme.Keyword k
 lexeme_of text (shape.Mark m) n = lexeme.Mark m
@@ -138,13 +138,13 @@ unfoldable pub begins_line : List ℕ → ℕ → Bool
 begins_line text i = (i == 0) || is_the 10 (slice_get text (i - 1))
 
 -- a shape of this length lies in so many bytes
-abbrev pub IsWhole : ℕ → Shape → ℕ → Type 0
+abbrev pub IsWhole : ℕ → TokenShape → ℕ → Type 0
 IsWhole len shape.Name n = n ≤ len
 IsWhole len (shape.Keyword k) n = n ≤ len
 IsWhole len (shape.Mark m) n = n ≤ len
 IsWhole len (shape.Number z) n = n ≤ len
 IsWhole len shape.String n = (2 ≤ n) × (n ≤ len)
-IsWhole len (shape.Variable f) n = (f.len + 1 ≡ n) × (1 ≤ len) × IsWithin (len - 1) f × (n ≤ len)
+IsWhole len (shape.Variable f) n = (f.len + 1 ≡ n) × (1 ≤ len) × FormIsWithin (len - 1) f × (n ≤ len)
 IsWhole len (shape.Listen l) n = n ≤ len
 IsWhole len shape.BlockName n = n ≤ len
 
@@ -153,9 +153,9 @@ abbrev pub FitsIn : ℕ → Found → Type 0
 FitsIn len (Gap n) = (0 < n) × (n ≤ len)
 FitsIn len (Token s n) = (0 < n) × (n ≤ len) × IsWhole len s n
 
-abbrev pub EndsIn : ℕ → Wrong → Type 0
-EndsIn len (BadByte from to) = (from ≤ len) × (to ≤ len + 1)
-EndsIn len Unclosed = Unit {0}
+abbrev pub WrongEndsIn : ℕ → Wrong → Type 0
+WrongEndsIn len (BadByte from to) = (from ≤ len) × (to ≤ len + 1)
+WrongEndsIn len Unclosed = Unit {0}
 
 -- the refusal of what stands at the place i of a text of this length
 abbrev pub refused : ℕ → ℕ → Wrong → ScriptFault

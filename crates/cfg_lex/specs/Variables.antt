@@ -2,54 +2,54 @@
 use Rattle.std.specs.Prelude.{ℕ, ◌+◌, ◌-◌, ◌==◌, Bool, true, not, ◌&&◌, nat_le, is_none, List, [], ◌∷◌, length, take, drop, Option, Some, None, option_map, IfSome, ◌≤◌, if◌then◌else◌}
 use Rattle.cfg_tree.specs.declared.token.Variable.{Variable}
 use Rattle.cfg_tree.specs.Variables.{name_len, begins_with, before, before_close}
-use Rattle.cfg_lex.specs.declared.variable.Part.{Part}
-use Rattle.cfg_lex.specs.declared.variable.Form.{Form}
+use Rattle.cfg_lex.specs.declared.variable.Stretch.{Stretch}
+use Rattle.cfg_lex.specs.declared.variable.VariableForm.{VariableForm}
 
-abbrev pub part : ℕ → ℕ → Part
-part from len = record { from = from; len = len }
+abbrev pub stretch : ℕ → ℕ → Stretch
+stretch from len = record { from = from; len = len }
 
 -- NAME(INNER) with a name of this length
-abbrev pub with_inner : ℕ → Option ℕ → Option Form
-with_inner n None = None
-with_inner n (Some k) = Some record { name = part 0 n; inner = Some (part (n + 1) k); transformation = None; len = n + k + 2 }
+abbrev pub form_with_inner : ℕ → Option ℕ → Option VariableForm
+form_with_inner n None = None
+form_with_inner n (Some k) = Some record { name = stretch 0 n; inner = Some (stretch (n + 1) k); transformation = None; len = n + k + 2 }
 
 -- NAME or NAME(INNER) at the beginning of a text
-unfoldable pub named_form : List ℕ → Option Form
+unfoldable pub named_form : List ℕ → Option VariableForm
 named_form text =
     let n = name_len text in
     if n == 0 then None
-    else if begins_with 40 (drop n text) then with_inner n (before_close 0 (drop (n + 1) text))
-    else Some record { name = part 0 n; inner = None; transformation = None; len = n }
+    else if begins_with 40 (drop n text) then form_with_inner n (before_close 0 (drop (n + 1) text))
+    else Some record { name = stretch 0 n; inner = None; transformation = None; len = n }
 
 -- one byte further on
-abbrev pub further : Part → Part
-further p = part (p.from + 1) p.len
+abbrev pub further : Stretch → Stretch
+further p = stretch (p.from + 1) p.len
 
 -- `{TRANSFORMATION})` behind the name and its inner text
-unfoldable pub with_transformation : List ℕ → Form → Option Form
-with_transformation text f =
+unfoldable pub form_with_transformation : List ℕ → VariableForm → Option VariableForm
+form_with_transformation text f =
     let k = before 125 (drop (f.len + 2) text) in
     if begins_with 123 (drop (f.len + 1) text) && begins_with 125 (drop (f.len + 2 + k) text) && begins_with 41 (drop (f.len + 3 + k) text)
     then Some record {
       name = further f.name;
       inner = option_map further f.inner;
-      transformation = Some (part (f.len + 2) k);
+      transformation = Some (stretch (f.len + 2) k);
       len = f.len + k + 4;
     } else None
 
-abbrev pub transformed : List ℕ → Option Form → Option Form
-transformed text None = None
-transformed text (Some f) = with_transformation text f
+abbrev pub transformed_form : List ℕ → Option VariableForm → Option VariableForm
+transformed_form text None = None
+transformed_form text (Some f) = form_with_transformation text f
 
 -- the variable behind a `$`
-unfoldable pub form_at : List ℕ → Option Form
-form_at text = if begins_with 40 text then transformed text (named_form (drop 1 text)) else named_form text
+unfoldable pub form_at : List ℕ → Option VariableForm
+form_at text = if begins_with 40 text then transformed_form text (named_form (drop 1 text)) else named_form text
 
 -- the variable that has these parts
-abbrev pub bytes_of : List ℕ → Part → List ℕ
+abbrev pub bytes_of : List ℕ → Stretch → List ℕ
 bytes_of text p = take p.len (drop p.from text)
 
-abbrev pub variable_of : List ℕ → Form → Variable
+abbrev pub variable_of : List ℕ → VariableForm → Variable
 variable_of text f = record {
   name = bytes_of text f.name;
   inner = option_map (bytes_of text) f.inner;
@@ -74,7 +74,7 @@ unfoldable pub is_open_transformation : List ℕ → Bool
 is_open_transformation [] = true
 is_open_transformation (c ∷ text) = (c == 123) && nat_le (length text) (before 125 text + 1)
 
-abbrev pub is_open_behind : List ℕ → Option Form → Bool
+abbrev pub is_open_behind : List ℕ → Option VariableForm → Bool
 is_open_behind text None = is_open_name text
 is_open_behind text (Some f) = is_open_transformation (drop f.len text)
 
@@ -88,12 +88,12 @@ unfoldable pub is_cut_off : List ℕ → Bool
 is_cut_off text = if begins_with 40 text then is_open_bracket (drop 1 text) else is_open_name text
 
 -- a part lies in so many bytes
-abbrev pub LiesIn : ℕ → Part → Type 0
-LiesIn len p = p.from + p.len ≤ len
+abbrev pub StretchLiesIn : ℕ → Stretch → Type 0
+StretchLiesIn len p = p.from + p.len ≤ len
 
 -- the parts of a form, and all of it
-pub record IsWithin (len : ℕ) (f : Form) : Type 0 where
-  pub name : LiesIn len f.name
-  pub inner : IfSome f.inner (LiesIn len)
-  pub transformation : IfSome f.transformation (LiesIn len)
+pub record FormIsWithin (len : ℕ) (f : VariableForm) : Type 0 where
+  pub name : StretchLiesIn len f.name
+  pub inner : IfSome f.inner (StretchLiesIn len)
+  pub transformation : IfSome f.transformation (StretchLiesIn len)
   pub whole : f.len ≤ len

@@ -38,10 +38,10 @@ other_word w =
     else if bytes_eq w (codes "modparam") then Some Modparam
     else None
 
-abbrev pub or_else : Option keyword.Keyword → Option keyword.Keyword → Option keyword.Keyword
-or_else (Some k) other = Some k
-or_else None other = other
+abbrev pub keyword_or : Option keyword.Keyword → Option keyword.Keyword → Option keyword.Keyword
+keyword_or (Some k) other = Some k
+keyword_or None other = other
 
 -- the keyword that is this word; every other word is a name
-unfoldable pub keyword_of : List ℕ → Option keyword.Keyword
-keyword_of w = or_else (operand_word w) (or_else (statement_word w) (other_word w))
+unfoldable pub keyword_of_word : List ℕ → Option keyword.Keyword
+keyword_of_word w = keyword_or (operand_word w) (keyword_or (statement_word w) (other_word w))

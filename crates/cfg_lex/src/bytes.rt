@@ -1,13 +1,13 @@
-// Classes of bytes.
+//! Classes of bytes.
 
 ghost use Rattle.std.specs.Prelude.{◌≡◌, ◌≤◌, ◌<◌, length, drop, IsTrue};
 ghost use Rattle.std.specs.List.{prefix_len};
 ghost use Rattle.cfg_tree.specs.Variables.{begins_name, name_len, begins_with};
-ghost use Rattle.cfg_lex.specs.Bytes.{is_blank, is_quote, has};
+ghost use Rattle.cfg_lex.specs.Bytes.{is_blank, is_quote, class_has};
 
 /// A class of bytes of which the language has runs.
 #[derive(Clone, Copy, Debug, PartialEq, Eq)]
-pub enum Class {
+pub enum RunClass {
     /// A letter, a digit or `_`: the bytes of a name behind its first one.
     NameByte,
     Digit,
@@ -17,16 +17,16 @@ pub enum Class {
     Other(u8),
 }
 
-impl Class {
+impl RunClass {
     /// Whether the byte is of this class.
     pub fn has(self, b: u8) -> bool
-        ensures { result ≡ has self b }
+        ensures { result ≡ class_has self b }
     {
         match self {
-            Class::NameByte => b.is_ascii_alphanumeric() || b == b'_',
-            Class::Digit => b.is_ascii_digit(),
-            Class::BlockName => b.is_ascii_alphanumeric() || b"_-:.".contains(&b),
-            Class::Other(other) => b != other,
+            RunClass::NameByte => b.is_ascii_alphanumeric() || b == b'_',
+            RunClass::Digit => b.is_ascii_digit(),
+            RunClass::BlockName => b.is_ascii_alphanumeric() || b"_-:.".contains(&b),
+            RunClass::Other(other) => b != other,
         }
     }
 }
@@ -63,8 +63,8 @@ pub fn begins_at(text: &[u8], at: usize, byte: u8) -> bool
 
 /// How many bytes of a class stand at the beginning.
 #[tactic(auto, using(crate::proofs::Runs::run_stops, crate::proofs::Runs::run_goes, crate::proofs::Runs::run_all))]
-pub fn run_len(text: &[u8], class: Class) -> usize
-    ensures value { result ≡ prefix_len (has class) text.now }
+pub fn run_len(text: &[u8], class: RunClass) -> usize
+    ensures value { result ≡ prefix_len (class_has class) text.now }
     ensures within { result ≤ length text.now }
 {
     for at in 0..text.len() {
@@ -81,7 +81,7 @@ pub fn name_len(text: &[u8]) -> usize
     ensures within { result ≤ length text.now }
 {
     match text {
-        [first, rest @ ..] if begins_name(*first) => 1 + run_len(rest, Class::NameByte),
+        [first, rest @ ..] if begins_name(*first) => 1 + run_len(rest, RunClass::NameByte),
         _ => 0,
     }
 }

@@ -1,11 +1,11 @@
-// Comments.
+//! Comments.
 
 ghost use Rattle.std.specs.Prelude.{◌≡◌, ◌≤◌, ◌<◌, ◌+◌, length, IfSome, IsTrue, MatchResult};
 ghost use Rattle.cfg_lex.specs.Comments.{names_dialect, is_no_comment, begins_end, before_end};
-ghost use Rattle.cfg_lex.specs.Shapes.{hash_at, slash_at, FitsIn, EndsIn};
+ghost use Rattle.cfg_lex.specs.Shapes.{hash_at, slash_at, FitsIn, WrongEndsIn};
 
-use crate::bytes::{Class, begins_at, run_len};
-use crate::shape::{Found, Shape, Wrong};
+use crate::bytes::{RunClass, begins_at, run_len};
+use crate::shape::{Found, TokenShape, Wrong};
 use cfg_tree::Mark;
 
 /// Whether one of the words KAMAILIO, OPENSER, SER, MAXCOMPAT, ALL stands here, and no letter, digit or `_` behind it.
@@ -13,7 +13,7 @@ use cfg_tree::Mark;
 fn names_dialect(text: &[u8]) -> bool
     ensures { result ≡ names_dialect text.now }
 {
-    let word = &text[..run_len(text, Class::NameByte)];
+    let word = &text[..run_len(text, RunClass::NameByte)];
     word == b"KAMAILIO".as_slice()
         || word == b"OPENSER".as_slice()
         || word == b"SER".as_slice()
@@ -33,12 +33,12 @@ fn is_no_comment(text: &[u8], fresh: bool) -> bool
 #[tactic(auto, unfolding(crate::specs::Shapes::hash_at))]
 pub fn hash_at(text: &[u8], fresh: bool) -> Result<Found, Wrong>
     ensures value { result ≡ hash_at fresh text.now }
-    ensures within { MatchResult result (FitsIn (length text.now + 1)) (EndsIn (length text.now + 1)) }
+    ensures within { MatchResult result (FitsIn (length text.now + 1)) (WrongEndsIn (length text.now + 1)) }
 {
     if is_no_comment(text, fresh) {
         return Err(Wrong::BadByte { from: 0, to: 1 });
     }
-    Ok(Found::Gap(1 + run_len(text, Class::Other(b'\n'))))
+    Ok(Found::Gap(1 + run_len(text, RunClass::Other(b'\n'))))
 }
 
 /// Whether `*/` stands at the beginning.
@@ -71,13 +71,13 @@ fn before_end(text: &[u8]) -> Option<usize>
 #[tactic(auto, unfolding(crate::specs::Shapes::slash_at))]
 pub fn slash_at(text: &[u8]) -> Result<Found, Wrong>
     ensures value { result ≡ slash_at text.now }
-    ensures within { MatchResult result (FitsIn (length text.now + 1)) (EndsIn (length text.now + 1)) }
+    ensures within { MatchResult result (FitsIn (length text.now + 1)) (WrongEndsIn (length text.now + 1)) }
 {
     if begins_at(text, 0, b'/') {
-        return Ok(Found::Gap(2 + run_len(&text[1..], Class::Other(b'\n'))));
+        return Ok(Found::Gap(2 + run_len(&text[1..], RunClass::Other(b'\n'))));
     }
     if !begins_at(text, 0, b'*') {
-        return Ok(Found::Token(Shape::Mark(Mark::Divide), 1));
+        return Ok(Found::Token(TokenShape::Mark(Mark::Divide), 1));
     }
     match before_end(&text[1..]) {
         None => Err(Wrong::Unclosed),

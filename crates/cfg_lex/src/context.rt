@@ -1,4 +1,4 @@
-// What the tokens before a place allow at it.
+//! What the tokens before a place allow at it.
 
 ghost use Rattle.std.specs.Prelude.{◌≡◌};
 ghost use Rattle.cfg_lex.specs.Contexts.{behind};
@@ -7,7 +7,7 @@ use cfg_tree::{Keyword, Lexeme, Mark};
 
 /// What the last one or two tokens were. LISTEN and the names of blocks are tokens behind some only.
 #[derive(Clone, Copy, Debug, PartialEq, Eq)]
-pub enum Context {
+pub enum TokenContext {
     /// Any others, or none.
     Plain,
     /// The name `listen`.
@@ -20,19 +20,22 @@ pub enum Context {
     BlockName,
 }
 
-impl Context {
+impl TokenContext {
     /// What is allowed behind this token.
     #[tactic(auto, unfolding(crate::specs::Contexts::behind))]
-    pub fn behind(self, lexeme: &Lexeme) -> Context
+    pub fn behind(self, lexeme: &Lexeme) -> TokenContext
         ensures { result ≡ behind self lexeme.now }
     {
         match lexeme {
-            Lexeme::Name(name) if name.bytes() == b"listen".as_slice() => Context::BehindListen,
-            Lexeme::Keyword(Keyword::Route) => Context::BehindRoute,
-            Lexeme::Mark(Mark::OpenSquare) => Context::BlockName,
-            Lexeme::Mark(Mark::OpenRound) if self == Context::BehindRoute => Context::BlockName,
-            Lexeme::Mark(Mark::Assign) if self == Context::BehindListen => Context::Address,
-            _ => Context::Plain,
+            Lexeme::Name(name) if name.bytes() == b"listen".as_slice() =>
+                TokenContext::BehindListen,
+            Lexeme::Keyword(Keyword::Route) => TokenContext::BehindRoute,
+            Lexeme::Mark(Mark::OpenSquare) => TokenContext::BlockName,
+            Lexeme::Mark(Mark::OpenRound) if self == TokenContext::BehindRoute =>
+                TokenContext::BlockName,
+            Lexeme::Mark(Mark::Assign) if self == TokenContext::BehindListen =>
+                TokenContext::Address,
+            _ => TokenContext::Plain,
         }
     }
 }

@@ -17,7 +17,7 @@ mod found;
 pub mod laws;
 mod listen;
 mod mark;
-pub mod piece;
+mod piece;
 mod reader;
 mod shape;
 mod string;
@@ -40,10 +40,10 @@ pub fn lex(alloc: Global, text: &[u8]) -> Result<Vec<Token>, ScriptFault>
     ensures found { IfOk result (λ v. TokensOf text.now v.items) }
     // What is refused is its first fault.
     ensures fault { IfErr result (IsFaultOf text.now) }
-    // Where the text has tokens, they are given, or memory is wanting.
+    // Where the text has tokens, they are given, or it is out of memory.
     ensures whole { (ts : List Token) → TokensOf text.now ts
         → MatchResult result (λ v. v.items ≡ ts) (λ e. e ≡ ScriptFault.NoMemory) }
-    // Where it has a fault, that is the answer, or memory is wanting.
+    // Where it has a fault, that is given, or it is out of memory.
     ensures refused { (kind : ℕ) (at : Place) → FaultOf text.now (ScriptFault.Refused kind at)
         → MatchResult result (λ _. ⊥) (λ e. (e ≡ ScriptFault.Refused kind at) ⊎ (e ≡ ScriptFault.NoMemory)) }
 {

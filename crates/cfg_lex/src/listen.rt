@@ -1,15 +1,14 @@
-// LISTEN.
+//! LISTEN.
 
 ghost use Rattle.std.specs.Prelude.{◌≡◌, ◌≤◌, ◌<◌, ◌+◌, length, IfSome, IsTrue};
-ghost use Rattle.sip_fields.specs.Host.{octet_at, dot_end, v4_at};
-ghost use Rattle.cfg_lex.specs.Listens.{begins_udp, port_at, colon_end, address_at, listen_at};
+ghost use Rattle.sip_words.specs.Addresses.{octet_at, dot_end, v4_at};
+ghost use Rattle.cfg_lex.specs.Listens.{begins_udp, listen_port_at, colon_end, listen_address_at, listen_at};
 
 use cfg_tree::Listen;
-use sip_words::numbers::number_at;
-use sip_words::words::stands;
+use sip_words::{number_at, stands};
 
 /// A number 0 to 255 of one to three digits, and its end.
-#[tactic(auto, unfolding(sip_fields::specs::Host::octet_at))]
+#[tactic(auto, unfolding(sip_words::specs::Addresses::octet_at))]
 fn octet_at(text: &[u8], from: usize) -> Option<(u8, usize)>
     requires { from ≤ length text.now }
     ensures value { result ≡ octet_at text.now from }
@@ -24,7 +23,7 @@ fn octet_at(text: &[u8], from: usize) -> Option<(u8, usize)>
 }
 
 /// The place behind a dot.
-#[tactic(auto, unfolding(sip_fields::specs::Host::dot_end))]
+#[tactic(auto, unfolding(sip_words::specs::Addresses::dot_end))]
 fn dot_end(text: &[u8], from: usize) -> Option<usize>
     requires { from ≤ length text.now }
     ensures value { result ≡ dot_end text.now from }
@@ -34,7 +33,7 @@ fn dot_end(text: &[u8], from: usize) -> Option<usize>
 }
 
 /// The address that four numbers with dots write, and its end.
-#[tactic(auto, unfolding(sip_fields::specs::Host::v4_at))]
+#[tactic(auto, unfolding(sip_words::specs::Addresses::v4_at))]
 fn v4_at(text: &[u8], from: usize) -> Option<(u32, usize)>
     requires { from ≤ length text.now }
     ensures value { result ≡ v4_at text.now from }
@@ -48,10 +47,10 @@ fn v4_at(text: &[u8], from: usize) -> Option<(u32, usize)>
 }
 
 /// A number 1 to 65535 of one to five digits, and its end.
-#[tactic(auto, unfolding(crate::specs::Listens::port_at))]
-fn port_at(text: &[u8], from: usize) -> Option<(u16, usize)>
+#[tactic(auto, unfolding(crate::specs::Listens::listen_port_at))]
+fn listen_port_at(text: &[u8], from: usize) -> Option<(u16, usize)>
     requires { from ≤ length text.now }
-    ensures value { result ≡ port_at text.now from }
+    ensures value { result ≡ listen_port_at text.now from }
     ensures bounds { IfSome result (λ n. (from < n.1) × (n.1 ≤ length text.now)) }
 {
     let (number, end) = number_at(text, from, 5)?;
@@ -73,14 +72,14 @@ fn colon_end(text: &[u8], from: usize) -> Option<usize>
 }
 
 /// IP:PORT at `from`, and its end.
-#[tactic(auto, unfolding(crate::specs::Listens::address_at))]
-fn address_at(text: &[u8], from: usize) -> Option<(Listen, usize)>
+#[tactic(auto, unfolding(crate::specs::Listens::listen_address_at))]
+fn listen_address_at(text: &[u8], from: usize) -> Option<(Listen, usize)>
     requires { from ≤ length text.now }
-    ensures value { result ≡ address_at text.now from }
+    ensures value { result ≡ listen_address_at text.now from }
     ensures bounds { IfSome result (λ n. (from < n.1) × (n.1 ≤ length text.now)) }
 {
     let (ip, end) = v4_at(text, from)?;
-    let (port, end) = port_at(text, colon_end(text, end)?)?;
+    let (port, end) = listen_port_at(text, colon_end(text, end)?)?;
     Some((Listen { ip, port }, end))
 }
 
@@ -102,5 +101,5 @@ pub fn listen_at(text: &[u8]) -> Option<(Listen, usize)>
     if !begins_udp(text) {
         return None;
     }
-    address_at(text, 4)
+    listen_address_at(text, 4)
 }

@@ -1,10 +1,10 @@
-// Operators and brackets.
+//! Operators and brackets.
 
 ghost use Rattle.std.specs.Prelude.{◌≡◌, ◌+◌, length, MatchResult};
 ghost use Rattle.cfg_lex.specs.Marks.{two_byte_mark, bracket, one_byte_mark};
-ghost use Rattle.cfg_lex.specs.Shapes.{mark_at, FitsIn, EndsIn};
+ghost use Rattle.cfg_lex.specs.Shapes.{mark_token_at, FitsIn, WrongEndsIn};
 
-use crate::shape::{Found, Shape, Wrong};
+use crate::shape::{Found, TokenShape, Wrong};
 use cfg_tree::Mark;
 
 /// The operator that these two bytes are.
@@ -62,18 +62,18 @@ fn one_byte_mark(a: u8) -> Option<Mark>
 }
 
 /// The operator or bracket that begins with this byte, the longest; behind it stands this text.
-#[tactic(auto, unfolding(crate::specs::Shapes::mark_at))]
-pub fn mark_at(first: u8, text: &[u8]) -> Result<Found, Wrong>
-    ensures value { result ≡ mark_at first text.now }
-    ensures within { MatchResult result (FitsIn (length text.now + 1)) (EndsIn (length text.now + 1)) }
+#[tactic(auto, unfolding(crate::specs::Shapes::mark_token_at))]
+pub fn mark_token_at(first: u8, text: &[u8]) -> Result<Found, Wrong>
+    ensures value { result ≡ mark_token_at first text.now }
+    ensures within { MatchResult result (FitsIn (length text.now + 1)) (WrongEndsIn (length text.now + 1)) }
 {
     if let [second, ..] = text {
         if let Some(mark) = two_byte_mark(first, *second) {
-            return Ok(Found::Token(Shape::Mark(mark), 2));
+            return Ok(Found::Token(TokenShape::Mark(mark), 2));
         }
     }
     match one_byte_mark(first) {
         None => Err(Wrong::BadByte { from: 0, to: 1 }),
-        Some(mark) => Ok(Found::Token(Shape::Mark(mark), 1)),
+        Some(mark) => Ok(Found::Token(TokenShape::Mark(mark), 1)),
     }
 }

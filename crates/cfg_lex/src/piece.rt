@@ -1,10 +1,10 @@
-// The pieces of a text that is expanded.
+//! The pieces of a text that is expanded.
 
 ghost use Rattle.std.specs.Prelude.{◌≡◌, ◌≤◌, ◌<◌, length, map, IfOk, IfSome, option_map};
 ghost use Rattle.cfg_tree.specs.Variables.{pieces_of};
-ghost use Rattle.cfg_lex.specs.Pieces.{as_piece, first_piece, shown};
+ghost use Rattle.cfg_lex.specs.Pieces.{as_piece, first_piece, piece_shown};
 
-use crate::bytes::{Class, begins_at, run_len};
+use crate::bytes::{RunClass, begins_at, run_len};
 use crate::variable::{form_at, variable_of};
 use cfg_tree::Variable;
 use pv_values::Text;
@@ -23,10 +23,10 @@ pub enum Piece {
 #[tactic(auto, unfolding(crate::specs::Pieces::first_piece))]
 fn first_piece(alloc: Global, text: &[u8]) -> Result<Option<(Piece, usize)>, NoMemory>
     requires { 0 < length text.now }
-    ensures value { IfOk result (λ o. option_map shown o ≡ first_piece text.now) }
+    ensures value { IfOk result (λ o. option_map piece_shown o ≡ first_piece text.now) }
     ensures within { IfOk result (λ o. IfSome o (λ r. (0 < r.1) × (r.1 ≤ length text.now))) }
 {
-    let len = run_len(text, Class::Other(b'$'));
+    let len = run_len(text, RunClass::Other(b'$'));
     if len > 0 {
         let plain = Text::from_slice(alloc, &text[..len])?;
         return Ok(Some((Piece::Plain(plain), len)));

@@ -1,10 +1,10 @@
-// The tokens of a text, one after the other.
+//! The tokens of a text, one after the other.
 
 ghost use Rattle.std.specs.Prelude.{◌≡◌, ◌≤◌, ◌<◌, ◌+◌, ◌-◌, length, IfOk, IfErr};
-ghost use Rattle.cfg_lex.specs.Shapes.{EndsIn, refused};
+ghost use Rattle.cfg_lex.specs.Shapes.{WrongEndsIn, refused};
 ghost use Rattle.cfg_lex.specs.Tokens.{TokensOf, IsFaultOf};
 
-use crate::context::Context;
+use crate::context::TokenContext;
 use crate::found::{begins_line, found_at, lexeme_of};
 use crate::shape::{Found, Wrong};
 use cfg_tree::Token;
@@ -17,7 +17,7 @@ const LONGEST: usize = 1_048_576;
 /// The refusal of what stands at `at` in a text of this length.
 fn refused(at: usize, len: usize, wrong: Wrong) -> ScriptFault
     requires within { at ≤ len }
-    requires wrong { EndsIn (len - at) wrong }
+    requires wrong { WrongEndsIn (len - at) wrong }
     requires short { len < 4294967296 }
     ensures { result ≡ refused at len wrong }
 {
@@ -51,7 +51,7 @@ pub fn tokens_in(alloc: Global, text: &[u8]) -> Result<Vec<Token>, ScriptFault>
         });
     }
     let mut tokens = Vec::new(alloc);
-    let mut context = Context::Plain;
+    let mut context = TokenContext::Plain;
     let mut at = 0;
     while at < text.len() {
         let (shape, len) = match found_at(&text[at..], begins_line(text, at), context) {

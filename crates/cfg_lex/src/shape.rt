@@ -1,19 +1,19 @@
-// What stands at a place, before any memory is taken for it.
+//! What stands at a place, before any memory is taken for it.
 
 ghost use Rattle.std.specs.Prelude.{◌≡◌};
 
-use crate::variable::Form;
+use crate::variable::VariableForm;
 use cfg_tree::{Keyword, Listen, Mark};
 
 /// What a token is. What has bytes of its own is read from the text later.
 #[derive(Clone, Copy, Debug, PartialEq, Eq)]
-pub enum Shape {
+pub enum TokenShape {
     Name,
     Keyword(Keyword),
     Mark(Mark),
     Number(i64),
     String,
-    Variable(Form),
+    Variable(VariableForm),
     Listen(Listen),
     BlockName,
 }
@@ -23,7 +23,7 @@ pub enum Shape {
 pub enum Found {
     /// A blank, or a comment.
     Gap(usize),
-    Token(Shape, usize),
+    Token(TokenShape, usize),
 }
 
 /// Why neither stands there.

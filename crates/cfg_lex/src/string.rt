@@ -1,10 +1,10 @@
-// Strings.
+//! Strings.
 
 ghost use Rattle.std.specs.Prelude.{◌≡◌, ◌≤◌, ◌<◌, ◌+◌, length, IfSome, IfOk, MatchResult};
 ghost use Rattle.cfg_lex.specs.Strings.{is_escape, escaped, before_quote, is_bad, bad_escape, unescaped, first_meant};
-ghost use Rattle.cfg_lex.specs.Shapes.{string_at, FitsIn, EndsIn};
+ghost use Rattle.cfg_lex.specs.Shapes.{string_at, FitsIn, WrongEndsIn};
 
-use crate::shape::{Found, Shape, Wrong};
+use crate::shape::{Found, TokenShape, Wrong};
 use pv_values::Text;
 use std::alloc::{AllocError, Global};
 
@@ -70,7 +70,7 @@ fn bad_escape(text: &[u8]) -> Option<usize>
 #[tactic(auto, unfolding(crate::specs::Shapes::string_at))]
 pub fn string_at(quote: u8, text: &[u8]) -> Result<Found, Wrong>
     ensures value { result ≡ string_at quote text.now }
-    ensures within { MatchResult result (FitsIn (length text.now + 1)) (EndsIn (length text.now + 1)) }
+    ensures within { MatchResult result (FitsIn (length text.now + 1)) (WrongEndsIn (length text.now + 1)) }
 {
     let Some(len) = before_quote(text, quote) else {
         return Err(Wrong::Unclosed);
@@ -80,7 +80,7 @@ pub fn string_at(quote: u8, text: &[u8]) -> Result<Found, Wrong>
             from: at + 1,
             to: at + 3,
         }),
-        None => Ok(Found::Token(Shape::String, len + 2)),
+        None => Ok(Found::Token(TokenShape::String, len + 2)),
     }
 }
 

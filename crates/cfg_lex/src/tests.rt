@@ -1,8 +1,8 @@
-// What texts are read into, worked out by hand from the language's rules.
+//! What texts are read into, worked out by hand from the language's rules.
 
 use crate::{Piece, lex, pieces};
 use cfg_tree::{Lexeme, Token, Variable};
-use pv_values::{ScriptFault, Text};
+use pv_values::{Place, ScriptFault, Text};
 use std::alloc::{AllocError, Global};
 use std::test::Fail;
 
@@ -66,6 +66,21 @@ fn shown(alloc: Global, text: &[u8]) -> Result<String, AllocError> {
         }
         Err(ScriptFault::NoMemory) => Err(AllocError),
     }
+}
+
+/// An example of the call: three tokens, each with its place, and a string that isn't closed.
+#[test]
+fn a_parameter_is_three_tokens(rt: HostRuntime) -> Result<(), Fail> {
+    let alloc = rt.alloc();
+    let found = shown(alloc, b"debug = 3".as_slice())?;
+    assert_eq!(rt;
+        found.as_str(),
+        "name debug 0-5 | mark Assign 6-7 | number 3 8-9"
+    );
+    let refused = lex(alloc, b"debug = 'x".as_slice()).err();
+    let at = Place { from: 8, to: 10 };
+    assert_eq!(rt; refused, Some(ScriptFault::Refused { kind: 2, at }));
+    Ok(())
 }
 
 const WORDS: [(&str, &str); 14] = [

@@ -1,37 +1,37 @@
-// Variables as they are written.
+//! Variables as they are written.
 
 ghost use Rattle.std.specs.Prelude.{◌≡◌, ◌≤◌, ◌<◌, ◌+◌, ◌-◌, length, IfSome, IfOk, option_map};
 ghost use Rattle.cfg_tree.specs.Variables.{before_close};
-ghost use Rattle.cfg_lex.specs.Variables.{opened_behind, closes, named_form, with_transformation, form_at, is_open_name, is_open_transformation, is_open_bracket, is_cut_off, further, bytes_of, variable_of, LiesIn, IsWithin};
+ghost use Rattle.cfg_lex.specs.Variables.{opened_behind, closes, named_form, form_with_transformation, form_at, is_open_name, is_open_transformation, is_open_bracket, is_cut_off, further, bytes_of, variable_of, StretchLiesIn, FormIsWithin};
 
-use crate::bytes::{Class, begins_at, name_len, run_len};
+use crate::bytes::{RunClass, begins_at, name_len, run_len};
 use cfg_tree::Variable;
 use pv_values::Text;
 use std::alloc::{AllocError, Global};
 
 /// Where a part of a variable stands behind its `$`, and how long it is.
 #[derive(Clone, Copy, Debug, PartialEq, Eq)]
-pub struct Part {
+pub struct Stretch {
     pub from: usize,
     pub len: usize,
 }
 
 /// Where the parts of a variable stand, and how many bytes it takes behind its `$`.
 #[derive(Clone, Copy, Debug, PartialEq, Eq)]
-pub struct Form {
-    pub name: Part,
-    pub inner: Option<Part>,
-    pub transformation: Option<Part>,
+pub struct VariableForm {
+    pub name: Stretch,
+    pub inner: Option<Stretch>,
+    pub transformation: Option<Stretch>,
     pub len: usize,
 }
 
-impl Part {
+impl Stretch {
     /// The part one byte further on.
-    fn further(self) -> Part
+    fn further(self) -> Stretch
         requires { self.from < 18446744073709551615 }
         ensures { result ≡ further self }
     {
-        Part {
+        Stretch {
             from: self.from + 1,
             len: self.len,
         }
@@ -39,7 +39,7 @@ impl Part {
 
     /// The bytes of this part.
     fn text(self, alloc: Global, text: &[u8]) -> Result<Text, AllocError>
-        requires { LiesIn (length text.now) self }
+        requires { StretchLiesIn (length text.now) self }
         ensures { IfOk result (λ t. t ≡ bytes_of text.now self) }
     {
         Text::from_slice(alloc, &text[self.from..self.from + self.len])
@@ -47,7 +47,7 @@ impl Part {
 }
 
 /// The part one byte further on, if there is one.
-fn further(part: Option<Part>) -> Option<Part>
+fn further(part: Option<Stretch>) -> Option<Stretch>
     requires { IfSome part (λ p. p.from < 18446744073709551615) }
     ensures { result ≡ option_map further part }
 {
@@ -94,17 +94,17 @@ fn before_close(text: &[u8]) -> Option<usize>
 
 /// NAME or NAME(INNER) at the beginning of a text.
 #[tactic(auto, unfolding(crate::specs::Variables::named_form))]
-fn named_form(text: &[u8]) -> Option<Form>
+fn named_form(text: &[u8]) -> Option<VariableForm>
     ensures value { result ≡ named_form text.now }
-    ensures within { IfSome result (IsWithin (length text.now)) }
+    ensures within { IfSome result (FormIsWithin (length text.now)) }
 {
     let n = name_len(text);
     if n == 0 {
         return None;
     }
-    let name = Part { from: 0, len: n };
+    let name = Stretch { from: 0, len: n };
     if !begins_at(text, n, b'(') {
-        return Some(Form {
+        return Some(VariableForm {
             name,
             inner: None,
             transformation: None,
@@ -112,9 +112,9 @@ fn named_form(text: &[u8]) -> Option<Form>
         });
     }
     let k = before_close(&text[n + 1..])?;
-    Some(Form {
+    Some(VariableForm {
         name,
-        inner: Some(Part {
+        inner: Some(Stretch {
             from: n + 1,
             len: k,
         }),
@@ -124,24 +124,24 @@ fn named_form(text: &[u8]) -> Option<Form>
 }
 
 /// The variable in brackets whose name and inner text have this form, with `{TRANSFORMATION})` behind them.
-#[tactic(auto, unfolding(crate::specs::Variables::with_transformation))]
-fn with_transformation(text: &[u8], form: Form) -> Option<Form>
-    requires within { IsWithin (length text.now - 1) form }
+#[tactic(auto, unfolding(crate::specs::Variables::form_with_transformation))]
+fn form_with_transformation(text: &[u8], form: VariableForm) -> Option<VariableForm>
+    requires within { FormIsWithin (length text.now - 1) form }
     requires bracket { 0 < length text.now }
-    ensures value { result ≡ with_transformation text.now form }
-    ensures within { IfSome result (IsWithin (length text.now)) }
+    ensures value { result ≡ form_with_transformation text.now form }
+    ensures within { IfSome result (FormIsWithin (length text.now)) }
 {
     if !begins_at(text, form.len + 1, b'{') {
         return None;
     }
-    let k = run_len(&text[form.len + 2..], Class::Other(b'}'));
+    let k = run_len(&text[form.len + 2..], RunClass::Other(b'}'));
     if !begins_at(text, form.len + 2 + k, b'}') || !begins_at(text, form.len + 3 + k, b')') {
         return None;
     }
-    Some(Form {
+    Some(VariableForm {
         name: form.name.further(),
         inner: further(form.inner),
-        transformation: Some(Part {
+        transformation: Some(Stretch {
             from: form.len + 2,
             len: k,
         }),
@@ -151,15 +151,15 @@ fn with_transformation(text: &[u8], form: Form) -> Option<Form>
 
 /// The variable behind a `$`: NAME, NAME(INNER), (NAME{TRANSFORMATION}) or (NAME(INNER){TRANSFORMATION}).
 #[tactic(auto, unfolding(crate::specs::Variables::form_at))]
-pub fn form_at(text: &[u8]) -> Option<Form>
+pub fn form_at(text: &[u8]) -> Option<VariableForm>
     ensures value { result ≡ form_at text.now }
-    ensures within { IfSome result (IsWithin (length text.now)) }
+    ensures within { IfSome result (FormIsWithin (length text.now)) }
 {
     if !begins_at(text, 0, b'(') {
         return named_form(text);
     }
     let form = named_form(&text[1..])?;
-    with_transformation(text, form)
+    form_with_transformation(text, form)
 }
 
 /// Whether NAME( stands here, and its bracket isn't closed.
@@ -179,7 +179,7 @@ fn is_open_transformation(text: &[u8]) -> bool
     match text {
         [] => true,
         [first, rest @ ..] => {
-            *first == b'{' && rest.len() <= run_len(rest, Class::Other(b'}')) + 1
+            *first == b'{' && rest.len() <= run_len(rest, RunClass::Other(b'}')) + 1
         }
     }
 }
@@ -211,8 +211,8 @@ pub fn is_cut_off(text: &[u8]) -> bool
 }
 
 /// The bytes of a part, if there is one.
-fn part_of(alloc: Global, text: &[u8], part: Option<Part>) -> Result<Option<Text>, AllocError>
-    requires { IfSome part (LiesIn (length text.now)) }
+fn part_of(alloc: Global, text: &[u8], part: Option<Stretch>) -> Result<Option<Text>, AllocError>
+    requires { IfSome part (StretchLiesIn (length text.now)) }
     ensures { IfOk result (λ t. t ≡ option_map (bytes_of text.now) part) }
 {
     match part {
@@ -222,8 +222,8 @@ fn part_of(alloc: Global, text: &[u8], part: Option<Part>) -> Result<Option<Text
 }
 
 /// The variable of this form, whose text behind the `$` is this.
-pub fn variable_of(alloc: Global, text: &[u8], form: Form) -> Result<Variable, AllocError>
-    requires { IsWithin (length text.now) form }
+pub fn variable_of(alloc: Global, text: &[u8], form: VariableForm) -> Result<Variable, AllocError>
+    requires { FormIsWithin (length text.now) form }
     ensures { IfOk result (λ v. v ≡ variable_of text.now form) }
 {
     let name = form.name.text(alloc, text)?;

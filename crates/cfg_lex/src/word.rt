@@ -1,12 +1,12 @@
-// Words and numbers.
+//! Words and numbers.
 
 ghost use Rattle.std.specs.Prelude.{◌≡◌, ◌≤◌, ◌<◌, length, MatchResult};
 ghost use Rattle.cfg_tree.specs.Variables.{name_len};
-ghost use Rattle.cfg_lex.specs.Words.{operand_word, statement_word, other_word, keyword_of};
-ghost use Rattle.cfg_lex.specs.Shapes.{word_at, number_at, FitsIn, EndsIn};
+ghost use Rattle.cfg_lex.specs.Words.{operand_word, statement_word, other_word, keyword_of_word};
+ghost use Rattle.cfg_lex.specs.Shapes.{word_token_at, number_token_at, FitsIn, WrongEndsIn};
 
-use crate::bytes::{Class, name_len, run_len};
-use crate::shape::{Found, Shape, Wrong};
+use crate::bytes::{RunClass, name_len, run_len};
+use crate::shape::{Found, TokenShape, Wrong};
 use cfg_tree::Keyword;
 use pv_values::number::text_number;
 
@@ -79,9 +79,9 @@ fn other_word(word: &[u8]) -> Option<Keyword>
 }
 
 /// The keyword that this word is, where the grammar writes it itself.
-#[tactic(auto, unfolding(crate::specs::Words::keyword_of))]
-fn keyword_of(word: &[u8]) -> Option<Keyword>
-    ensures { result ≡ keyword_of word.now }
+#[tactic(auto, unfolding(crate::specs::Words::keyword_of_word))]
+fn keyword_of_word(word: &[u8]) -> Option<Keyword>
+    ensures { result ≡ keyword_of_word word.now }
 {
     if let Some(keyword) = operand_word(word) {
         return Some(keyword);
@@ -93,29 +93,29 @@ fn keyword_of(word: &[u8]) -> Option<Keyword>
 }
 
 /// The word at the beginning, a keyword or a name.
-#[tactic(auto, unfolding(crate::specs::Shapes::word_at))]
-pub fn word_at(text: &[u8]) -> Result<Found, Wrong>
+#[tactic(auto, unfolding(crate::specs::Shapes::word_token_at))]
+pub fn word_token_at(text: &[u8]) -> Result<Found, Wrong>
     requires { 0 < name_len text.now }
-    ensures value { result ≡ word_at text.now }
-    ensures within { MatchResult result (FitsIn (length text.now)) (EndsIn (length text.now)) }
+    ensures value { result ≡ word_token_at text.now }
+    ensures within { MatchResult result (FitsIn (length text.now)) (WrongEndsIn (length text.now)) }
 {
     let len = name_len(text);
-    let shape = match keyword_of(&text[..len]) {
-        None => Shape::Name,
-        Some(keyword) => Shape::Keyword(keyword),
+    let shape = match keyword_of_word(&text[..len]) {
+        None => TokenShape::Name,
+        Some(keyword) => TokenShape::Keyword(keyword),
     };
     Ok(Found::Token(shape, len))
 }
 
 /// The number at the beginning.
-#[tactic(auto, unfolding(crate::specs::Shapes::number_at))]
-pub fn number_at(text: &[u8]) -> Result<Found, Wrong>
-    ensures value { result ≡ number_at text.now }
-    ensures within { MatchResult result (FitsIn (length text.now)) (EndsIn (length text.now)) }
+#[tactic(auto, unfolding(crate::specs::Shapes::number_token_at))]
+pub fn number_token_at(text: &[u8]) -> Result<Found, Wrong>
+    ensures value { result ≡ number_token_at text.now }
+    ensures within { MatchResult result (FitsIn (length text.now)) (WrongEndsIn (length text.now)) }
 {
-    let len = run_len(text, Class::Digit);
+    let len = run_len(text, RunClass::Digit);
     match text_number(&text[..len]) {
         None => Err(Wrong::BadByte { from: 0, to: len }),
-        Some(number) => Ok(Found::Token(Shape::Number(number), len)),
+        Some(number) => Ok(Found::Token(TokenShape::Number(number), len)),
     }
 }

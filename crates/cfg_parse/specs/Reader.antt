@@ -2,6 +2,7 @@
 use Rattle.std.specs.Prelude.{◌≡◌, ◌≢◌, ℕ, zero, suc, ◌-◌, Bool, true, false, List, [], ◌∷◌, ◌++◌, length, take, Option, Some, None, Result, Ok, Err, if◌then◌else◌}
 use Rattle.std.specs.Option.{option_map}
 use denote.Enum.Bare.{sameb}
+use denote.Ref.{MutBor}
 use Rattle.pv_values.specs.declared.refusal.Place.{Place}
 use Rattle.cfg_parse.specs.declared.fault.Fault.{Fault}
 use Rattle.cfg_parse.specs.declared.fault.Fault.TheVariants.{NoMemory}
@@ -147,3 +148,7 @@ many step found = λ ts. many_from step (length ts) found ts
 abbrev pub Reads : {A : Type 0} → Option (A × List Token) → Result A Fault → List Token → Type 0
 Reads found (Ok a) rest = found ≡ Some (a, rest)
 Reads found (Err fault) rest = fault ≢ NoMemory → found ≡ None
+
+-- a function value that reads an item, or that none comes
+abbrev pub Steps : {A : Type 0} → Reader (Option A) → (MutBor (List Token) → Result (Option A) Fault → MutBor (List Token) → Type 0) → Type 0
+Steps step post = (old new : MutBor (List Token)) (r : _) → post old r new → Reads (step old.now) r new.now

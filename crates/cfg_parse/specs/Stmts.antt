@@ -5,6 +5,7 @@ use Rattle.pv_values.specs.declared.value.Val.TheVariants as val
 use Rattle.pv_values.specs.declared.refusal.Place.{Place}
 use Rattle.cfg_tree.specs.declared.token.Lexeme.{Lexeme}
 use Rattle.cfg_tree.specs.declared.token.Lexeme.TheVariants as lexeme
+use Rattle.cfg_tree.specs.declared.token.Keyword.{Keyword}
 use Rattle.cfg_tree.specs.declared.token.Keyword.TheVariants as word_is
 use Rattle.cfg_tree.specs.declared.token.Mark.TheVariants as mark
 use Rattle.cfg_tree.specs.declared.raw.RawStmt.{RawStmt}
@@ -63,30 +64,23 @@ return_of = do
   at ← since start
   pure (roll-RawStmt (RawStmt-F.Return at value))
 
+-- a keyword with ";", and where both stand
+unfoldable pub alone : Keyword → Reader Place
+alone word = do
+  start ← here
+  keyword_of word
+  mark_of mark.Semicolon
+  since start
+
 -- "exit" ";" | "drop" ";" | "break" ";"
-unfoldable pub exit_alone : Reader RawStmt
-exit_alone = do
-  start ← here
-  keyword_of word_is.Exit
-  mark_of mark.Semicolon
-  at ← since start
-  pure (roll-RawStmt (RawStmt-F.Exit at))
+abbrev pub exit_alone : Reader RawStmt
+exit_alone = (λ at. roll-RawStmt (RawStmt-F.Exit at)) <$> alone word_is.Exit
 
-unfoldable pub drop_alone : Reader RawStmt
-drop_alone = do
-  start ← here
-  keyword_of word_is.Drop
-  mark_of mark.Semicolon
-  at ← since start
-  pure (roll-RawStmt (RawStmt-F.Drop at))
+abbrev pub drop_alone : Reader RawStmt
+drop_alone = (λ at. roll-RawStmt (RawStmt-F.Drop at)) <$> alone word_is.Drop
 
-unfoldable pub break_alone : Reader RawStmt
-break_alone = do
-  start ← here
-  keyword_of word_is.Break
-  mark_of mark.Semicolon
-  at ← since start
-  pure (roll-RawStmt (RawStmt-F.Break at))
+abbrev pub break_alone : Reader RawStmt
+break_alone = (λ at. roll-RawStmt (RawStmt-F.Break at)) <$> alone word_is.Break
 
 -- ";"
 unfoldable pub empty : Reader RawStmt

@@ -1,4 +1,4 @@
-// Words, variables, arguments and calls.
+//! Words, variables, arguments and calls.
 
 ghost use Rattle.std.specs.Prelude.{◌≡◌, pos, ◌≤ℤ◌, IfOk};
 ghost use Rattle.cfg_tree.specs.declared.token.Mark.TheVariants.{Comma};
@@ -6,8 +6,9 @@ ghost use Rattle.cfg_parse.specs.Reader.{Reads, behind_mark};
 ghost use Rattle.cfg_parse.specs.Calls as spec;
 
 use crate::fault::Fault;
+use crate::repeat::many;
 use crate::tokens::Tokens;
-use cfg_tree::{Keyword, Lexeme, Mark, RawArg, RawCall, RawVariable, Token, Variable, Word};
+use cfg_tree::{Keyword, Lexeme, Mark, RawArg, RawCall, RawVariable, Variable, Word};
 use pv_values::{Place, Text};
 use sqlite_items::Items;
 use std::alloc::{AllocError, Global};
@@ -45,116 +46,73 @@ fn variable_at(alloc: Global, variable: &Variable, at: Place) -> Result<RawVaria
 }
 
 /// NUMBER
-#[tactic(auto, unfolding(crate::specs::Calls::number, crate::specs::Reader::one, crate::specs::Reader::next, crate::specs::Reader::passed))]
+#[tactic(auto, unfolding(crate::specs::Calls::number, crate::specs::Reader::one, crate::specs::Reader::first, crate::specs::Reader::next, crate::specs::Reader::passed))]
 pub fn number(tokens: &mut Tokens<'_>) -> Result<i64, Fault>
     ensures value { Reads (spec.number tokens.old) result tokens.new }
     ensures not_negative { IfOk result (λ n. pos 0 ≤ℤ n) }
 {
-    let Some(
-        Token {
-            lexeme: Lexeme::Number(n),
-            ..
-        },
-    ) = tokens.token()
-    else {
-        return Err(tokens.refuse());
-    };
-    let n = *n;
-    if n < 0 {
-        return Err(tokens.refuse());
+    match tokens.first() {
+        Some(Lexeme::Number(n)) if *n >= 0 => {
+            tokens.pass();
+            Ok(*n)
+        }
+        _ => Err(tokens.refuse()),
     }
-    tokens.pass();
-    Ok(n)
 }
 
 /// STRING
-#[tactic(auto, unfolding(crate::specs::Calls::string, crate::specs::Reader::one, crate::specs::Reader::next, crate::specs::Reader::passed))]
+#[tactic(auto, unfolding(crate::specs::Calls::string, crate::specs::Reader::one, crate::specs::Reader::first, crate::specs::Reader::next, crate::specs::Reader::passed))]
 pub fn string(alloc: Global, tokens: &mut Tokens<'_>) -> Result<Word, Fault>
     ensures { Reads (spec.string tokens.old) result tokens.new }
 {
-    let Some(
-        Token {
-            lexeme: Lexeme::String(text),
-            at,
-        },
-    ) = tokens.token()
-    else {
+    let Some(Lexeme::String(text)) = tokens.first() else {
         return Err(tokens.refuse());
     };
-    tokens.pass();
-    Ok(word(alloc, text, *at)?)
+    Ok(word(alloc, text, tokens.pass())?)
 }
 
 /// NAME
-#[tactic(auto, unfolding(crate::specs::Calls::name, crate::specs::Reader::one, crate::specs::Reader::next, crate::specs::Reader::passed))]
+#[tactic(auto, unfolding(crate::specs::Calls::name, crate::specs::Reader::one, crate::specs::Reader::first, crate::specs::Reader::next, crate::specs::Reader::passed))]
 pub fn name(alloc: Global, tokens: &mut Tokens<'_>) -> Result<Word, Fault>
     ensures { Reads (spec.name tokens.old) result tokens.new }
 {
-    let Some(
-        Token {
-            lexeme: Lexeme::Name(text),
-            at,
-        },
-    ) = tokens.token()
-    else {
+    let Some(Lexeme::Name(text)) = tokens.first() else {
         return Err(tokens.refuse());
     };
-    tokens.pass();
-    Ok(word(alloc, text, *at)?)
+    Ok(word(alloc, text, tokens.pass())?)
 }
 
 /// BNAME
-#[tactic(auto, unfolding(crate::specs::Calls::block_name, crate::specs::Reader::one, crate::specs::Reader::next, crate::specs::Reader::passed))]
+#[tactic(auto, unfolding(crate::specs::Calls::block_name, crate::specs::Reader::one, crate::specs::Reader::first, crate::specs::Reader::next, crate::specs::Reader::passed))]
 pub fn block_name(alloc: Global, tokens: &mut Tokens<'_>) -> Result<Word, Fault>
     ensures { Reads (spec.block_name tokens.old) result tokens.new }
 {
-    let Some(
-        Token {
-            lexeme: Lexeme::BlockName(text),
-            at,
-        },
-    ) = tokens.token()
-    else {
+    let Some(Lexeme::BlockName(text)) = tokens.first() else {
         return Err(tokens.refuse());
     };
-    tokens.pass();
-    Ok(word(alloc, text, *at)?)
+    Ok(word(alloc, text, tokens.pass())?)
 }
 
 /// `BNAME | STRING`
-#[tactic(auto, unfolding(crate::specs::Calls::target, crate::specs::Reader::one, crate::specs::Reader::next, crate::specs::Reader::passed))]
+#[tactic(auto, unfolding(crate::specs::Calls::target, crate::specs::Reader::one, crate::specs::Reader::first, crate::specs::Reader::next, crate::specs::Reader::passed))]
 fn target(alloc: Global, tokens: &mut Tokens<'_>) -> Result<Word, Fault>
     ensures { Reads (spec.target tokens.old) result tokens.new }
 {
-    let Some(
-        Token {
-            lexeme: Lexeme::BlockName(text) | Lexeme::String(text),
-            at,
-        },
-    ) = tokens.token()
-    else {
+    let Some(Lexeme::BlockName(text) | Lexeme::String(text)) = tokens.first() else {
         return Err(tokens.refuse());
     };
-    tokens.pass();
-    Ok(word(alloc, text, *at)?)
+    Ok(word(alloc, text, tokens.pass())?)
 }
 
 /// VAR
-#[tactic(auto, unfolding(crate::specs::Calls::variable, crate::specs::Reader::one, crate::specs::Reader::next, crate::specs::Reader::passed))]
+#[tactic(auto, unfolding(crate::specs::Calls::variable, crate::specs::Reader::one, crate::specs::Reader::first, crate::specs::Reader::next, crate::specs::Reader::passed))]
 pub fn variable(alloc: Global, tokens: &mut Tokens<'_>) -> Result<RawVariable, Fault>
     ensures { Reads (spec.variable tokens.old) result tokens.new }
 {
-    let Some(
-        Token {
-            lexeme: Lexeme::Variable(v),
-            at,
-        },
-    ) = tokens.token()
-    else {
+    let Some(Lexeme::Variable(v)) = tokens.first() else {
         return Err(tokens.refuse());
     };
-    tokens.pass();
-    Ok(variable_at(alloc, v, *at)?)
+    Ok(variable_at(alloc, v, tokens.pass())?)
 }
 
 /// `STRING | ["-"] NUMBER | VAR`
@@ -184,26 +142,8 @@ fn next_argument(alloc: Global, tokens: &mut Tokens<'_>) -> Result<Option<RawArg
     }
 }
 
-/// `{ "," arg }`, behind these. Each turn passes a token.
-#[tactic(auto, using(crate::proofs::Turns::turns), unfolding(crate::specs::Calls::more_arguments, crate::specs::Reader::many))]
-fn more_arguments(
-    alloc: Global,
-    tokens: &mut Tokens<'_>,
-    mut found: Items<RawArg>,
-) -> Result<Items<RawArg>, Fault>
-    ensures { Reads (spec.more_arguments found tokens.old) result tokens.new }
-{
-    for _turn in 0..tokens.count() {
-        let Some(next) = next_argument(alloc, tokens)? else {
-            return Ok(found);
-        };
-        found.push(next)?;
-    }
-    Ok(found)
-}
-
 /// `[ arg { "," arg } ] ")"`
-#[tactic(auto, unfolding(crate::specs::Calls::arguments))]
+#[tactic(auto, unfolding(crate::specs::Calls::arguments, crate::specs::Calls::more_arguments))]
 fn arguments(alloc: Global, tokens: &mut Tokens<'_>) -> Result<Items<RawArg>, Fault>
     ensures { Reads (spec.arguments tokens.old) result tokens.new }
 {
@@ -212,7 +152,7 @@ fn arguments(alloc: Global, tokens: &mut Tokens<'_>) -> Result<Items<RawArg>, Fa
         return Ok(found);
     }
     found.push(argument(alloc, tokens)?)?;
-    let found = more_arguments(alloc, tokens, found)?;
+    let found = many(tokens, found, |tokens| next_argument(alloc, tokens))?;
     tokens.mark(Mark::CloseRound)?;
     Ok(found)
 }

@@ -1,6 +1,6 @@
-// Expressions, level by level.
+//! Expressions, level by level.
 
-ghost use Rattle.std.specs.Prelude.{◌≡◌, [], ◌∷◌, ◌++◌, IfOk};
+ghost use Rattle.std.specs.Prelude.{◌≡◌, ◌∷◌, IfOk};
 ghost use Rattle.std.specs.Option.{option_copied};
 ghost use Rattle.cfg_parse.specs.Reader.{Reads, one};
 ghost use Rattle.cfg_parse.specs.Exprs as spec;
@@ -8,8 +8,9 @@ ghost use Rattle.cfg_parse.specs.Nests.{ReadsUnary};
 
 use crate::calls::{call, number, string, variable};
 use crate::fault::Fault;
+use crate::repeat::many;
 use crate::tokens::Tokens;
-use cfg_tree::{Keyword, Lexeme, Mark, RawExpr, Token};
+use cfg_tree::{Keyword, Lexeme, Mark, RawExpr};
 use pv_values::BinOp;
 use sqlite_items::{Boxed, Items};
 use std::alloc::{AllocError, Global};
@@ -103,26 +104,6 @@ fn together(
     Ok(all)
 }
 
-/// Operands of `&&`. One alone is itself.
-fn all(alloc: Global, first: RawExpr, more: Items<RawExpr>) -> Result<RawExpr, AllocError>
-    ensures { IfOk result (λ e. e ≡ spec.all first more) }
-{
-    if more.is_empty() {
-        return Ok(first);
-    }
-    Ok(RawExpr::All(together(alloc, first, more)?))
-}
-
-/// Operands of `||`. One alone is itself.
-fn any(alloc: Global, first: RawExpr, more: Items<RawExpr>) -> Result<RawExpr, AllocError>
-    ensures { IfOk result (λ e. e ≡ spec.any first more) }
-{
-    if more.is_empty() {
-        return Ok(first);
-    }
-    Ok(RawExpr::Any(together(alloc, first, more)?))
-}
-
 /// `NUMBER | STRING | VAR | call`
 #[tactic(auto, unfolding(crate::specs::Exprs::atom))]
 pub fn atom(alloc: Global, tokens: &mut Tokens<'_>) -> Result<RawExpr, Fault>
@@ -137,23 +118,13 @@ pub fn atom(alloc: Global, tokens: &mut Tokens<'_>) -> Result<RawExpr, Fault>
 }
 
 /// `==` is true, `!=` false.
-#[tactic(auto, unfolding(crate::specs::Reader::one, crate::specs::Reader::next, crate::specs::Reader::passed))]
+#[tactic(auto, unfolding(crate::specs::Reader::one, crate::specs::Reader::first, crate::specs::Reader::next, crate::specs::Reader::passed))]
 fn is_equal(tokens: &mut Tokens<'_>) -> Result<bool, Fault>
     ensures { Reads (one spec.is_equal_in tokens.old) result tokens.new }
 {
-    let is = match tokens.token() {
-        Some(
-            Token {
-                lexeme: Lexeme::Mark(Mark::Equal),
-                ..
-            },
-        ) => true,
-        Some(
-            Token {
-                lexeme: Lexeme::Mark(Mark::NotEqual),
-                ..
-            },
-        ) => false,
+    let is = match tokens.first() {
+        Some(Lexeme::Mark(Mark::Equal)) => true,
+        Some(Lexeme::Mark(Mark::NotEqual)) => false,
         _ => return Err(tokens.refuse()),
     };
     tokens.pass();
@@ -199,30 +170,18 @@ impl<F: Fn(Global, &mut Tokens<'_>, usize) -> Result<RawExpr, Fault>> Levels<F> 
         Ok(Some((op, self.unary(tokens)?)))
     }
 
-    /// `{ ( "*" | "/" | "mod" ) un }`. Each turn passes a token.
-    #[tactic(auto, using(crate::proofs::Turns::turns), unfolding(crate::specs::Exprs::more_factors, crate::specs::Reader::many))]
-    fn factors(&self, tokens: &mut Tokens<'_>) -> Result<Items<(BinOp, RawExpr)>, Fault>
-        requires { ReadsUnary self.now.room (F.pre self.now.unary) (F.post self.now.unary) }
-        ensures { Reads (spec.more_factors (spec.unary self.now.room) [] tokens.old) result tokens.new }
-    {
-        let mut found = Items::new(self.alloc);
-        for _turn in 0..tokens.count() {
-            let Some(next) = self.next_factor(tokens)? else {
-                return Ok(found);
-            };
-            found.push(next)?;
-        }
-        Ok(found)
-    }
-
     /// `un { ( "*" | "/" | "mod" ) un }`
-    #[tactic(auto, unfolding(crate::specs::Exprs::product))]
+    #[tactic(auto, unfolding(crate::specs::Exprs::product, crate::specs::Exprs::more_factors))]
     fn product(&self, tokens: &mut Tokens<'_>) -> Result<RawExpr, Fault>
         requires { ReadsUnary self.now.room (F.pre self.now.unary) (F.post self.now.unary) }
         ensures { Reads (spec.product (spec.unary self.now.room) tokens.old) result tokens.new }
     {
         let first = self.unary(tokens)?;
-        let links = self.factors(tokens)?;
+        let links = many(
+            tokens,
+            Items::new(self.alloc),
+            |tokens| self.next_factor(tokens),
+        )?;
         Ok(chain(self.alloc, first, links)?)
     }
 
@@ -237,30 +196,18 @@ impl<F: Fn(Global, &mut Tokens<'_>, usize) -> Result<RawExpr, Fault>> Levels<F> 
         Ok(Some((op, self.product(tokens)?)))
     }
 
-    /// `{ ( "+" | "-" ) mul }`. Each turn passes a token.
-    #[tactic(auto, using(crate::proofs::Turns::turns), unfolding(crate::specs::Exprs::more_terms, crate::specs::Reader::many))]
-    fn terms(&self, tokens: &mut Tokens<'_>) -> Result<Items<(BinOp, RawExpr)>, Fault>
-        requires { ReadsUnary self.now.room (F.pre self.now.unary) (F.post self.now.unary) }
-        ensures { Reads (spec.more_terms (spec.unary self.now.room) [] tokens.old) result tokens.new }
-    {
-        let mut found = Items::new(self.alloc);
-        for _turn in 0..tokens.count() {
-            let Some(next) = self.next_term(tokens)? else {
-                return Ok(found);
-            };
-            found.push(next)?;
-        }
-        Ok(found)
-    }
-
     /// `mul { ( "+" | "-" ) mul }`
-    #[tactic(auto, unfolding(crate::specs::Exprs::sum))]
+    #[tactic(auto, unfolding(crate::specs::Exprs::sum, crate::specs::Exprs::more_terms))]
     fn sum(&self, tokens: &mut Tokens<'_>) -> Result<RawExpr, Fault>
         requires { ReadsUnary self.now.room (F.pre self.now.unary) (F.post self.now.unary) }
         ensures { Reads (spec.sum (spec.unary self.now.room) tokens.old) result tokens.new }
     {
         let first = self.product(tokens)?;
-        let links = self.terms(tokens)?;
+        let links = many(
+            tokens,
+            Items::new(self.alloc),
+            |tokens| self.next_term(tokens),
+        )?;
         Ok(chain(self.alloc, first, links)?)
     }
 
@@ -279,7 +226,9 @@ impl<F: Fn(Global, &mut Tokens<'_>, usize) -> Result<RawExpr, Fault>> Levels<F> 
         };
         tokens.pass();
         let second = self.sum(tokens)?;
-        Ok(compares(self.alloc, first, op, second)?)
+        let mut links = Items::new(self.alloc);
+        links.push((op, second))?;
+        Ok(chain(self.alloc, first, links)?)
     }
 
     /// `sum [ ( "==" | "!=" | "<" | ">" | "<=" | ">=" ) sum | "=~" STRING ]`, or `"uri" ( "==" | "!=" ) "myself"`
@@ -306,31 +255,22 @@ impl<F: Fn(Global, &mut Tokens<'_>, usize) -> Result<RawExpr, Fault>> Levels<F> 
         Ok(Some(self.comparison(tokens)?))
     }
 
-    /// `{ ( "&&" | "and" ) cmp }`. Each turn passes a token.
-    #[tactic(auto, using(crate::proofs::Turns::turns), unfolding(crate::specs::Exprs::more_of_all, crate::specs::Reader::many))]
-    fn more_of_all(&self, tokens: &mut Tokens<'_>) -> Result<Items<RawExpr>, Fault>
-        requires { ReadsUnary self.now.room (F.pre self.now.unary) (F.post self.now.unary) }
-        ensures { Reads (spec.more_of_all (spec.unary self.now.room) [] tokens.old) result tokens.new }
-    {
-        let mut found = Items::new(self.alloc);
-        for _turn in 0..tokens.count() {
-            let Some(next) = self.next_of_all(tokens)? else {
-                return Ok(found);
-            };
-            found.push(next)?;
-        }
-        Ok(found)
-    }
-
     /// `cmp { ( "&&" | "and" ) cmp }`
-    #[tactic(auto, unfolding(crate::specs::Exprs::all_of))]
+    #[tactic(auto, unfolding(crate::specs::Exprs::all_of, crate::specs::Exprs::more_of_all))]
     fn all_of(&self, tokens: &mut Tokens<'_>) -> Result<RawExpr, Fault>
         requires { ReadsUnary self.now.room (F.pre self.now.unary) (F.post self.now.unary) }
         ensures { Reads (spec.all_of (spec.unary self.now.room) tokens.old) result tokens.new }
     {
         let first = self.comparison(tokens)?;
-        let more = self.more_of_all(tokens)?;
-        Ok(all(self.alloc, first, more)?)
+        let more = many(
+            tokens,
+            Items::new(self.alloc),
+            |tokens| self.next_of_all(tokens),
+        )?;
+        if more.is_empty() {
+            return Ok(first);
+        }
+        Ok(RawExpr::All(together(self.alloc, first, more)?))
     }
 
     fn next_of_any(&self, tokens: &mut Tokens<'_>) -> Result<Option<RawExpr>, Fault>
@@ -344,31 +284,22 @@ impl<F: Fn(Global, &mut Tokens<'_>, usize) -> Result<RawExpr, Fault>> Levels<F> 
         Ok(Some(self.all_of(tokens)?))
     }
 
-    /// `{ ( "||" | "or" ) and }`. Each turn passes a token.
-    #[tactic(auto, using(crate::proofs::Turns::turns), unfolding(crate::specs::Exprs::more_of_any, crate::specs::Reader::many))]
-    fn more_of_any(&self, tokens: &mut Tokens<'_>) -> Result<Items<RawExpr>, Fault>
-        requires { ReadsUnary self.now.room (F.pre self.now.unary) (F.post self.now.unary) }
-        ensures { Reads (spec.more_of_any (spec.unary self.now.room) [] tokens.old) result tokens.new }
-    {
-        let mut found = Items::new(self.alloc);
-        for _turn in 0..tokens.count() {
-            let Some(next) = self.next_of_any(tokens)? else {
-                return Ok(found);
-            };
-            found.push(next)?;
-        }
-        Ok(found)
-    }
-
     /// `and { ( "||" | "or" ) and }`
-    #[tactic(auto, unfolding(crate::specs::Exprs::any_of))]
+    #[tactic(auto, unfolding(crate::specs::Exprs::any_of, crate::specs::Exprs::more_of_any))]
     fn any_of(&self, tokens: &mut Tokens<'_>) -> Result<RawExpr, Fault>
         requires { ReadsUnary self.now.room (F.pre self.now.unary) (F.post self.now.unary) }
         ensures { Reads (spec.any_of (spec.unary self.now.room) tokens.old) result tokens.new }
     {
         let first = self.all_of(tokens)?;
-        let more = self.more_of_any(tokens)?;
-        Ok(any(self.alloc, first, more)?)
+        let more = many(
+            tokens,
+            Items::new(self.alloc),
+            |tokens| self.next_of_any(tokens),
+        )?;
+        if more.is_empty() {
+            return Ok(first);
+        }
+        Ok(RawExpr::Any(together(self.alloc, first, more)?))
     }
 
     /// `"(" expr ")"`
@@ -404,20 +335,6 @@ impl<F: Fn(Global, &mut Tokens<'_>, usize) -> Result<RawExpr, Fault>> Levels<F> 
             _ => atom(self.alloc, tokens),
         }
     }
-}
-
-/// A comparison of two sums.
-fn compares(
-    alloc: Global,
-    first: RawExpr,
-    op: BinOp,
-    second: RawExpr,
-) -> Result<RawExpr, AllocError>
-    ensures { IfOk result (λ e. e ≡ spec.chain first ((op, second) ∷ [])) }
-{
-    let mut links = Items::new(alloc);
-    links.push((op, second))?;
-    Ok(RawExpr::Chain(Boxed::new(alloc, first)?, links))
 }
 
 /// A `un`, in which so many brackets and prefix operators may stand inside one another. Where none may, one

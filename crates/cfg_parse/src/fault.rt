@@ -1,4 +1,4 @@
-// Why the tokens give no tree.
+//! Why the tokens give no tree.
 
 use pv_values::Place;
 use std::alloc::AllocError;

@@ -1,4 +1,4 @@
-// The grammar and its reading functions: what is read is what is derived, and there is one tree at most.
+//! The grammar and its reading functions: what is read is what is derived, and there is one tree at most.
 
 ghost use Rattle.std.specs.Prelude.{◌≡◌, List, Some};
 ghost use Rattle.cfg_tree.specs.declared.token.Token.{Token};

@@ -9,6 +9,7 @@ mod calls;
 mod exprs;
 mod fault;
 pub mod laws;
+mod repeat;
 mod script;
 mod stmts;
 #[cfg(test)]

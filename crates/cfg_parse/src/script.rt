@@ -1,4 +1,4 @@
-// Scripts: parameters, modules and blocks.
+//! Scripts: parameters, modules and blocks.
 
 ghost use Rattle.std.specs.Prelude.{◌≡◌, []};
 ghost use Rattle.cfg_parse.specs.Reader.{Reads, one};
@@ -6,8 +6,9 @@ ghost use Rattle.cfg_parse.specs.Calls as calls;
 ghost use Rattle.cfg_parse.specs.Script as spec;
 ghost use Rattle.cfg_parse.specs.Script.{ReadsAll};
 
-use crate::calls::{block_name, name, string};
+use crate::calls::{block_name, name, number, string};
 use crate::fault::Fault;
+use crate::repeat::many;
 use crate::stmts::body;
 use crate::tokens::Tokens;
 use cfg_tree::{Keyword, Lexeme, Mark, RawBlock, RawItem, RouteKind, Setting, Token, Word};
@@ -22,138 +23,64 @@ pub struct Kinds {
     named: Option<RouteKind>,
 }
 
-/// The kinds of block that `route` begins.
-fn route_kinds() -> Kinds
-    ensures { result ≡ spec.route_kinds }
-{
-    Kinds {
-        alone: Some(RouteKind::Begins(BlockKind::Request)),
-        named: Some(RouteKind::Route),
+impl Kinds {
+    fn new(alone: Option<RouteKind>, named: Option<RouteKind>) -> Kinds
+        ensures { result ≡ record { alone = alone; named = named } }
+    {
+        Kinds { alone, named }
     }
 }
 
-/// The kinds of block that another word begins.
+/// The kinds of block that a word other than `route` begins.
 #[tactic(auto, unfolding(crate::specs::Script::kinds_of))]
 fn kinds_of(word: &[u8]) -> Kinds
     ensures { result ≡ spec.kinds_of word.now }
 {
+    let request = Some(RouteKind::Begins(BlockKind::Request));
+    let reply = Some(RouteKind::Begins(BlockKind::Reply));
+    let branch = Some(RouteKind::Begins(BlockKind::Branch));
+    let failure = Some(RouteKind::Begins(BlockKind::Failure));
+    let event = Some(RouteKind::Begins(BlockKind::Event));
     if word == b"request_route".as_slice() {
-        Kinds {
-            alone: Some(RouteKind::Begins(BlockKind::Request)),
-            named: None,
-        }
+        Kinds::new(request, None)
     } else if word == b"reply_route".as_slice() {
-        Kinds {
-            alone: Some(RouteKind::Begins(BlockKind::Reply)),
-            named: None,
-        }
+        Kinds::new(reply, None)
     } else if word == b"onreply_route".as_slice() {
-        Kinds {
-            alone: Some(RouteKind::Begins(BlockKind::Reply)),
-            named: Some(RouteKind::Begins(BlockKind::Reply)),
-        }
+        Kinds::new(reply, reply)
     } else if word == b"branch_route".as_slice() {
-        Kinds {
-            alone: None,
-            named: Some(RouteKind::Begins(BlockKind::Branch)),
-        }
+        Kinds::new(None, branch)
     } else if word == b"failure_route".as_slice() {
-        Kinds {
-            alone: None,
-            named: Some(RouteKind::Begins(BlockKind::Failure)),
-        }
+        Kinds::new(None, failure)
     } else if word == b"event_route".as_slice() {
-        Kinds {
-            alone: None,
-            named: Some(RouteKind::Begins(BlockKind::Event)),
-        }
+        Kinds::new(None, event)
     } else {
-        Kinds {
-            alone: None,
-            named: None,
-        }
-    }
-}
-
-/// `NUMBER | STRING | NAME | LISTEN`
-#[tactic(auto, unfolding(crate::specs::Script::setting_of, crate::specs::Reader::one, crate::specs::Reader::next, crate::specs::Reader::passed))]
-fn setting(alloc: Global, tokens: &mut Tokens<'_>) -> Result<Setting, Fault>
-    ensures { Reads (spec.setting_of tokens.old) result tokens.new }
-{
-    match tokens.token() {
-        Some(
-            Token {
-                lexeme: Lexeme::Number(n),
-                ..
-            },
-        ) => {
-            let n = *n;
-            if n < 0 {
-                return Err(tokens.refuse());
-            }
-            tokens.pass();
-            Ok(Setting::Number(n))
-        }
-        Some(
-            Token {
-                lexeme: Lexeme::String(text),
-                ..
-            },
-        ) => {
-            tokens.pass();
-            Ok(Setting::String(text.copy(alloc)?))
-        }
-        Some(
-            Token {
-                lexeme: Lexeme::Name(text),
-                ..
-            },
-        ) => {
-            tokens.pass();
-            Ok(Setting::Name(text.copy(alloc)?))
-        }
-        Some(
-            Token {
-                lexeme: Lexeme::Listen(listen),
-                ..
-            },
-        ) => {
-            tokens.pass();
-            Ok(Setting::Listen(*listen))
-        }
-        _ => Err(tokens.refuse()),
+        Kinds::new(None, None)
     }
 }
 
 /// `STRING | NUMBER`
-#[tactic(auto, unfolding(crate::specs::Script::value_of, crate::specs::Reader::one, crate::specs::Reader::next, crate::specs::Reader::passed))]
+#[tactic(auto, unfolding(crate::specs::Script::value_of, crate::specs::Reader::one, crate::specs::Reader::first, crate::specs::Calls::number, crate::specs::Calls::string))]
 fn value(alloc: Global, tokens: &mut Tokens<'_>) -> Result<Setting, Fault>
     ensures { Reads (spec.value_of tokens.old) result tokens.new }
 {
-    match tokens.token() {
-        Some(
-            Token {
-                lexeme: Lexeme::Number(n),
-                ..
-            },
-        ) => {
-            let n = *n;
-            if n < 0 {
-                return Err(tokens.refuse());
-            }
+    match tokens.first() {
+        Some(Lexeme::Number(_)) => Ok(Setting::Number(number(tokens)?)),
+        _ => Ok(Setting::String(string(alloc, tokens)?.text)),
+    }
+}
+
+/// `NUMBER | STRING | NAME | LISTEN`
+#[tactic(auto, unfolding(crate::specs::Script::setting_of, crate::specs::Script::value_of, crate::specs::Reader::one, crate::specs::Reader::first, crate::specs::Reader::passed, crate::specs::Calls::name))]
+fn setting(alloc: Global, tokens: &mut Tokens<'_>) -> Result<Setting, Fault>
+    ensures { Reads (spec.setting_of tokens.old) result tokens.new }
+{
+    match tokens.first() {
+        Some(Lexeme::Name(_)) => Ok(Setting::Name(name(alloc, tokens)?.text)),
+        Some(Lexeme::Listen(listen)) => {
             tokens.pass();
-            Ok(Setting::Number(n))
+            Ok(Setting::Listen(*listen))
         }
-        Some(
-            Token {
-                lexeme: Lexeme::String(text),
-                ..
-            },
-        ) => {
-            tokens.pass();
-            Ok(Setting::String(text.copy(alloc)?))
-        }
-        _ => Err(tokens.refuse()),
+        _ => value(alloc, tokens),
     }
 }
 
@@ -244,32 +171,19 @@ fn block(
     }))
 }
 
-/// `"route"`, and where it stands
-#[tactic(auto, unfolding(crate::specs::Reader::one, crate::specs::Reader::next, crate::specs::Reader::passed))]
-fn route_word(tokens: &mut Tokens<'_>) -> Result<Place, Fault>
-    ensures { Reads (one spec.route_in tokens.old) result tokens.new }
-{
-    let Some(
-        Token {
-            lexeme: Lexeme::Keyword(Keyword::Route),
-            at,
-        },
-    ) = tokens.token()
-    else {
-        return Err(tokens.refuse());
-    };
-    tokens.pass();
-    Ok(*at)
-}
-
 /// A block that begins with `route`.
-#[tactic(auto, unfolding(crate::specs::Script::route_block))]
+#[tactic(auto, unfolding(crate::specs::Script::route_block, crate::specs::Reader::one, crate::specs::Reader::first, crate::specs::Reader::next, crate::specs::Reader::passed))]
 fn route_block(alloc: Global, tokens: &mut Tokens<'_>) -> Result<RawItem, Fault>
     ensures { Reads (spec.route_block tokens.old) result tokens.new }
 {
     let start = tokens.here();
-    let at = route_word(tokens)?;
-    block(alloc, tokens, start, at, route_kinds())
+    let Some(Lexeme::Keyword(Keyword::Route)) = tokens.first() else {
+        return Err(tokens.refuse());
+    };
+    let at = tokens.pass();
+    let request = Some(RouteKind::Begins(BlockKind::Request));
+    let kinds = Kinds::new(request, Some(RouteKind::Route));
+    block(alloc, tokens, start, at, kinds)
 }
 
 /// A parameter or a block that begins with a name.
@@ -310,28 +224,17 @@ fn next_item(alloc: Global, tokens: &mut Tokens<'_>) -> Result<Option<RawItem>, 
     }
 }
 
-/// Parameters, modules and blocks. Each turn passes a token.
-#[tactic(auto, using(crate::proofs::Turns::turns), unfolding(crate::specs::Script::items, crate::specs::Reader::many))]
-fn items(alloc: Global, tokens: &mut Tokens<'_>) -> Result<Items<RawItem>, Fault>
-    ensures { Reads (spec.items tokens.old) result tokens.new }
-{
-    let mut found = Items::new(alloc);
-    for _turn in 0..tokens.count() {
-        let Some(next) = next_item(alloc, tokens)? else {
-            return Ok(found);
-        };
-        found.push(next)?;
-    }
-    Ok(found)
-}
-
-/// Those of all the tokens of a text of this length.
-#[tactic(auto, unfolding(crate::specs::Script::script_at))]
+/// Parameters, modules and blocks: those of all the tokens of a text of this length.
+#[tactic(auto, unfolding(crate::specs::Script::script_at, crate::specs::Script::items))]
 pub fn script(alloc: Global, tokens: &[Token], end: usize) -> Result<Items<RawItem>, Fault>
     ensures { ReadsAll (spec.script_at tokens.now) result }
 {
     let mut tokens = Tokens::new(tokens, end);
-    let items = items(alloc, &mut tokens)?;
+    let items = many(
+        &mut tokens,
+        Items::new(alloc),
+        |tokens| next_item(alloc, tokens),
+    )?;
     if tokens.count() > 0 {
         return Err(tokens.refuse());
     }

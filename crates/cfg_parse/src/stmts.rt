@@ -1,4 +1,4 @@
-// Statements.
+//! Statements.
 
 ghost use Rattle.std.specs.Prelude.{◌≡◌, []};
 ghost use Rattle.cfg_tree.specs.declared.token.Keyword.TheVariants.{Else, Case, Default};
@@ -7,12 +7,13 @@ ghost use Rattle.cfg_parse.specs.Reader.{Reads, ◌>>◌, one, behind_keyword};
 ghost use Rattle.cfg_parse.specs.Stmts as spec;
 ghost use Rattle.cfg_parse.specs.Nests.{ReadsStmt};
 
-use crate::calls::{call, variable};
+use crate::calls::{call, number, string, variable};
 use crate::exprs::expr;
 use crate::fault::Fault;
+use crate::repeat::many;
 use crate::tokens::Tokens;
-use cfg_tree::{Keyword, Lexeme, Mark, RawExpr, RawStmt, Token};
-use pv_values::Val;
+use cfg_tree::{Keyword, Lexeme, Mark, RawExpr, RawStmt};
+use pv_values::{Place, Val};
 use sqlite_items::{Boxed, Items};
 use std::alloc::Global;
 
@@ -78,37 +79,15 @@ fn return_of(alloc: Global, tokens: &mut Tokens<'_>) -> Result<RawStmt, Fault>
     Ok(RawStmt::Return(tokens.since(start), value))
 }
 
-/// `"exit" ";"`
-#[tactic(auto, unfolding(crate::specs::Stmts::exit_alone))]
-fn exit_alone(tokens: &mut Tokens<'_>) -> Result<RawStmt, Fault>
-    ensures { Reads (spec.exit_alone tokens.old) result tokens.new }
+/// A keyword with `";"`, and where both stand.
+#[tactic(auto, unfolding(crate::specs::Stmts::alone))]
+fn alone(tokens: &mut Tokens<'_>, word: Keyword) -> Result<Place, Fault>
+    ensures { Reads (spec.alone word tokens.old) result tokens.new }
 {
     let start = tokens.here();
-    tokens.keyword(Keyword::Exit)?;
+    tokens.keyword(word)?;
     tokens.mark(Mark::Semicolon)?;
-    Ok(RawStmt::Exit(tokens.since(start)))
-}
-
-/// `"drop" ";"`
-#[tactic(auto, unfolding(crate::specs::Stmts::drop_alone))]
-fn drop_alone(tokens: &mut Tokens<'_>) -> Result<RawStmt, Fault>
-    ensures { Reads (spec.drop_alone tokens.old) result tokens.new }
-{
-    let start = tokens.here();
-    tokens.keyword(Keyword::Drop)?;
-    tokens.mark(Mark::Semicolon)?;
-    Ok(RawStmt::Drop(tokens.since(start)))
-}
-
-/// `"break" ";"`
-#[tactic(auto, unfolding(crate::specs::Stmts::break_alone))]
-fn break_alone(tokens: &mut Tokens<'_>) -> Result<RawStmt, Fault>
-    ensures { Reads (spec.break_alone tokens.old) result tokens.new }
-{
-    let start = tokens.here();
-    tokens.keyword(Keyword::Break)?;
-    tokens.mark(Mark::Semicolon)?;
-    Ok(RawStmt::Break(tokens.since(start)))
+    Ok(tokens.since(start))
 }
 
 /// `";"`
@@ -122,34 +101,13 @@ fn empty(tokens: &mut Tokens<'_>) -> Result<RawStmt, Fault>
 }
 
 /// LABEL
-#[tactic(auto, unfolding(crate::specs::Reader::one, crate::specs::Reader::next, crate::specs::Reader::passed))]
+#[tactic(auto, unfolding(crate::specs::Reader::one, crate::specs::Reader::first, crate::specs::Calls::number, crate::specs::Calls::string))]
 fn label_value(alloc: Global, tokens: &mut Tokens<'_>) -> Result<Val, Fault>
     ensures { Reads (one spec.label_in tokens.old) result tokens.new }
 {
-    match tokens.token() {
-        Some(
-            Token {
-                lexeme: Lexeme::Number(n),
-                ..
-            },
-        ) => {
-            let n = *n;
-            if n < 0 {
-                return Err(tokens.refuse());
-            }
-            tokens.pass();
-            Ok(Val::Int(n))
-        }
-        Some(
-            Token {
-                lexeme: Lexeme::String(text),
-                ..
-            },
-        ) => {
-            tokens.pass();
-            Ok(Val::Text(text.copy(alloc)?))
-        }
-        _ => Err(tokens.refuse()),
+    match tokens.first() {
+        Some(Lexeme::Number(_)) => Ok(Val::Int(number(tokens)?)),
+        _ => Ok(Val::Text(string(alloc, tokens)?.text)),
     }
 }
 
@@ -194,20 +152,17 @@ impl<F: Fn(Global, &mut Tokens<'_>, usize, bool) -> Result<RawStmt, Fault>> Arou
         }
     }
 
-    /// `{ stmt }`. Each turn passes a token.
-    #[tactic(auto, using(crate::proofs::Turns::turns), unfolding(crate::specs::Stmts::stmts, crate::specs::Reader::many))]
+    /// `{ stmt }`
+    #[tactic(auto, unfolding(crate::specs::Stmts::stmts))]
     fn stmts(&self, tokens: &mut Tokens<'_>, in_loop: bool) -> Result<Items<RawStmt>, Fault>
         requires { ReadsStmt self.now.room (F.pre self.now.stmt) (F.post self.now.stmt) }
         ensures { Reads (spec.stmts (spec.stmt self.now.room) in_loop tokens.old) result tokens.new }
     {
-        let mut found = Items::new(self.alloc);
-        for _turn in 0..tokens.count() {
-            let Some(next) = self.next_stmt(tokens, in_loop)? else {
-                return Ok(found);
-            };
-            found.push(next)?;
-        }
-        Ok(found)
+        many(
+            tokens,
+            Items::new(self.alloc),
+            |tokens| self.next_stmt(tokens, in_loop),
+        )
     }
 
     /// `[ "else" stmt ]`
@@ -295,22 +250,6 @@ impl<F: Fn(Global, &mut Tokens<'_>, usize, bool) -> Result<RawStmt, Fault>> Arou
         }
     }
 
-    /// `{ "case" LABEL ":" { stmt } }`. Each turn passes a token.
-    #[tactic(auto, using(crate::proofs::Turns::turns), unfolding(crate::specs::Stmts::cases, crate::specs::Reader::many))]
-    fn cases(&self, tokens: &mut Tokens<'_>) -> Result<Items<(Val, Items<RawStmt>)>, Fault>
-        requires { ReadsStmt self.now.room (F.pre self.now.stmt) (F.post self.now.stmt) }
-        ensures { Reads (spec.cases (spec.stmt self.now.room) tokens.old) result tokens.new }
-    {
-        let mut found = Items::new(self.alloc);
-        for _turn in 0..tokens.count() {
-            let Some(next) = self.next_case(tokens)? else {
-                return Ok(found);
-            };
-            found.push(next)?;
-        }
-        Ok(found)
-    }
-
     /// `[ "default" ":" { stmt } ]`
     #[tactic(auto, unfolding(crate::specs::Stmts::default))]
     fn default(&self, tokens: &mut Tokens<'_>) -> Result<Items<RawStmt>, Fault>
@@ -325,7 +264,7 @@ impl<F: Fn(Global, &mut Tokens<'_>, usize, bool) -> Result<RawStmt, Fault>> Arou
     }
 
     /// `"switch" "(" expr ")" "{" { "case" LABEL ":" { stmt } } [ "default" ":" { stmt } ] "}"`
-    #[tactic(auto, unfolding(crate::specs::Stmts::switch_of))]
+    #[tactic(auto, unfolding(crate::specs::Stmts::switch_of, crate::specs::Stmts::cases))]
     fn switch_of(&self, tokens: &mut Tokens<'_>) -> Result<RawStmt, Fault>
         requires { ReadsStmt self.now.room (F.pre self.now.stmt) (F.post self.now.stmt) }
         ensures { Reads (spec.switch_of (spec.stmt self.now.room) tokens.old) result tokens.new }
@@ -334,7 +273,11 @@ impl<F: Fn(Global, &mut Tokens<'_>, usize, bool) -> Result<RawStmt, Fault>> Arou
         tokens.keyword(Keyword::Switch)?;
         let e = condition(self.alloc, tokens)?;
         tokens.mark(Mark::OpenCurly)?;
-        let cases = self.cases(tokens)?;
+        let cases = many(
+            tokens,
+            Items::new(self.alloc),
+            |tokens| self.next_case(tokens),
+        )?;
         let default = self.default(tokens)?;
         tokens.mark(Mark::CloseCurly)?;
         Ok(RawStmt::Switch(tokens.since(start), e, cases, default))
@@ -351,11 +294,15 @@ impl<F: Fn(Global, &mut Tokens<'_>, usize, bool) -> Result<RawStmt, Fault>> Arou
             Some(Lexeme::Keyword(Keyword::While)) => self.while_of(tokens),
             Some(Lexeme::Keyword(Keyword::Switch)) => self.switch_of(tokens),
             Some(Lexeme::Keyword(Keyword::Return)) => return_of(self.alloc, tokens),
-            Some(Lexeme::Keyword(Keyword::Exit)) => exit_alone(tokens),
-            Some(Lexeme::Keyword(Keyword::Drop)) => drop_alone(tokens),
+            Some(Lexeme::Keyword(Keyword::Exit)) => {
+                Ok(RawStmt::Exit(alone(tokens, Keyword::Exit)?))
+            }
+            Some(Lexeme::Keyword(Keyword::Drop)) => {
+                Ok(RawStmt::Drop(alone(tokens, Keyword::Drop)?))
+            }
             Some(Lexeme::Keyword(Keyword::Break)) => {
                 if in_loop {
-                    break_alone(tokens)
+                    Ok(RawStmt::Break(alone(tokens, Keyword::Break)?))
                 } else {
                     Err(tokens.refuse())
                 }

@@ -1,6 +1,6 @@
-// A cursor over tokens.
+//! A cursor over tokens.
 
-ghost use Rattle.std.specs.Prelude.{◌≡◌, length};
+ghost use Rattle.std.specs.Prelude.{◌≡◌, length, IfSome};
 ghost use Rattle.std.specs.Option.{option_copied};
 ghost use Rattle.cfg_parse.specs.Reader as spec;
 ghost use Rattle.cfg_parse.specs.Reader.{Reads};
@@ -42,14 +42,6 @@ impl<'a> Tokens<'a> {
         self.left.len()
     }
 
-    /// The next token, if there is one.
-    #[tactic(auto, unfolding(crate::specs::Reader::next))]
-    pub fn token(&self) -> Option<&'a Token>
-        ensures { option_copied result ≡ spec.next self.now }
-    {
-        self.left.first()
-    }
-
     /// What the next token is, if there is one.
     #[tactic(auto, unfolding(crate::specs::Reader::first))]
     pub fn first(&self) -> Option<&'a Lexeme>
@@ -61,25 +53,36 @@ impl<'a> Tokens<'a> {
         }
     }
 
-    /// Passes the next token.
-    #[tactic(auto, unfolding(crate::specs::Reader::passed))]
-    pub fn pass(&mut self)
-        ensures { self.new ≡ spec.passed self.old }
+    /// Where the next token stands, or the text ends.
+    #[tactic(auto, unfolding(crate::specs::Reader::next))]
+    fn place(&self) -> Place
+        ensures { IfSome (spec.next self.now) (λ t. result ≡ t.at) }
     {
+        match self.left {
+            [token, ..] => token.at,
+            [] => Place {
+                from: self.end,
+                to: self.end,
+            },
+        }
+    }
+
+    /// Passes the next token, and says where it stands.
+    #[tactic(auto, unfolding(crate::specs::Reader::passed))]
+    pub fn pass(&mut self) -> Place
+        ensures place { IfSome (spec.next self.old) (λ t. result ≡ t.at) }
+        ensures after { self.new ≡ spec.passed self.old }
+    {
+        let at = self.place();
         if let [_, left @ ..] = self.left {
             self.left = left;
         }
+        at
     }
 
     /// Nothing is read here: the fault is at the next token, or at the text's end.
     pub fn refuse(&self) -> Fault {
-        match self.left {
-            [token, ..] => Fault::Syntax(token.at),
-            [] => Fault::Syntax(Place {
-                from: self.end,
-                to: self.end,
-            }),
-        }
+        Fault::Syntax(self.place())
     }
 
     #[tactic(auto, unfolding(crate::specs::Reader::sees_mark))]

@@ -1,4 +1,4 @@
-// The tree of the tokens of a script.
+//! The tree of the tokens of a script.
 
 ghost use Rattle.std.specs.Prelude.{length, IfOk, IfErr};
 ghost use Rattle.cfg_tree.specs.Checks.{IsTreeOf, IsUnderivable};

@@ -1,0 +1,5 @@
+pub mod Closing
+pub mod ClosedNames
+pub mod ClosedFunctions
+pub mod ClosedTrees
+pub mod ClosedScripts

@@ -4,13 +4,13 @@ use Rattle.std.specs.List.{list_any}
 use Rattle.std.specs.Fmt.{signed_decimal}
 use Rattle.std.specs.Str.{bytes_eq, str_eq_ignore_ascii_case}
 use Rattle.std.specs.Str.Parse.{digits_value}
-use Rattle.pv_values.specs.Kinds.{stands_in}
+use Rattle.pv_values.specs.Kinds.{ArgForm, Plain, Expanding, ExpandingMaybe, ExpandingTwo, Replying, Counting, TakingText, TakingBlock, TakingPattern, TakingTable, TakingTablePattern, TakingRemovable, Continuing, Logging, row, function_named, stands_in}
 use Rattle.pv_values.specs.Matching.{is_pattern}
 use Rattle.pv_values.specs.Numbers.{is_numeral}
 use Rattle.pv_values.specs.declared.block.BlockKind.TheVariants.{Request, Branch, Failure, Reply, Event}
 use Rattle.pv_values.specs.declared.refusal.Place.{Place}
 use Rattle.pv_values.specs.declared.function.Func.{Func}
-use Rattle.pv_values.specs.declared.function.Func.TheVariants as func
+use Rattle.pv_values.specs.declared.function_name.FuncName.{FuncName}
 use Rattle.cfg_tree.specs.declared.raw.Word.{Word}
 use Rattle.cfg_tree.specs.declared.raw.RawArg.{RawArg}
 use Rattle.cfg_tree.specs.declared.raw.RawArg.TheVariants as arg
@@ -19,7 +19,7 @@ use Rattle.cfg_tree.specs.declared.raw.RouteKind.TheVariants.{Route, Begins}
 use Rattle.cfg_tree.specs.declared.script.Part.{Part}
 use Rattle.cfg_tree.specs.declared.script.Part.TheOpen.{Part-F}
 use Rattle.cfg_tree.specs.declared.script.Part.TheViews.{roll-Part}
-use Rattle.cfg_tree.specs.Names.{Known, named, expansion, part_of, table_and_key}
+use Rattle.cfg_tree.specs.Names.{Known, expansion, part_of, table_and_key}
 use Rattle.cfg_tree.specs.Variables.{begins_with}
 use Rattle.cfg_tree.specs.Refusals.{Checked, accepted, refused, one, both, from_some, unless}
 
@@ -189,42 +189,35 @@ logging f known at [] = refused 8 at
 logging f known at (x ∷ []) = expanding f known at (x ∷ [])
 logging f known at (level ∷ x ∷ more) = from_some (literal level) 8 at (λ w. expanding f known at (x ∷ more))
 
--- ---- the functions: each with one like it, which tells its blocks, and its form
+-- ---- calls
 
-abbrev pub functions : List (List ℕ × (Func × Form))
-functions =
-    (codes "sl_send_reply", (func.SlSendReply 100, replying func.SlSendReply))
-    ∷ (codes "t_newtran", (func.TNewtran, plain func.TNewtran))
-    ∷ (codes "t_reply", (func.TReply 100, replying func.TReply))
-    ∷ (codes "t_relay", (func.TRelay, plain func.TRelay))
-    ∷ (codes "append_branch", (func.AppendBranch, expanding_maybe func.AppendBranch))
-    ∷ (codes "t_on_branch", (func.TOnBranch 0, taking_block (Begins Branch) func.TOnBranch))
-    ∷ (codes "t_on_failure", (func.TOnFailure 0, taking_block (Begins Failure) func.TOnFailure))
-    ∷ (codes "t_on_reply", (func.TOnReply 0, taking_block (Begins Reply) func.TOnReply))
-    ∷ (codes "t_set_fr", (func.TSetFr, expanding_two func.TSetFr))
-    ∷ (codes "t_check_trans", (func.TCheckTrans, plain func.TCheckTrans))
-    ∷ (codes "t_is_canceled", (func.TIsCanceled, plain func.TIsCanceled))
-    ∷ (codes "t_check_status", (func.TCheckStatus 0, taking_pattern func.TCheckStatus))
-    ∷ (codes "t_suspend", (func.TSuspend, plain func.TSuspend))
-    ∷ (codes "t_continue", (func.TContinue 0, continuing func.TContinue))
-    ∷ (codes "is_method", (func.IsMethod [], taking_text func.IsMethod))
-    ∷ (codes "has_totag", (func.HasTotag, plain func.HasTotag))
-    ∷ (codes "is_present_hf", (func.IsPresentHf [], taking_text func.IsPresentHf))
-    ∷ (codes "remove_hf", (func.RemoveHf [], taking_removable func.RemoveHf))
-    ∷ (codes "append_hf", (func.AppendHf, expanding func.AppendHf))
-    ∷ (codes "mf_process_maxfwd_header", (func.MfProcessMaxfwdHeader 1, counting func.MfProcessMaxfwdHeader))
-    ∷ (codes "record_route", (func.RecordRoute, plain func.RecordRoute))
-    ∷ (codes "loose_route", (func.LooseRoute, plain func.LooseRoute))
-    ∷ (codes "xlog", (func.Xlog, logging func.Xlog))
-    ∷ (codes "sht_rm_name_re", (func.ShtRmNameRe 0 0, taking_table_pattern func.ShtRmNameRe))
-    ∷ (codes "sht_reset", (func.ShtReset 0, taking_table func.ShtReset)) ∷ []
+-- what each form of the table reads
+abbrev pub reads : ArgForm → Form
+reads (Plain f) = plain f
+reads (Expanding f) = expanding f
+reads (ExpandingMaybe f) = expanding_maybe f
+reads (ExpandingTwo f) = expanding_two f
+reads (Replying make) = replying make
+reads (Counting make) = counting make
+reads (TakingText make) = taking_text make
+reads (TakingBlock kind make) = taking_block (Begins kind) make
+reads (TakingPattern make) = taking_pattern make
+reads (TakingTable make) = taking_table make
+reads (TakingTablePattern make) = taking_table_pattern make
+reads (TakingRemovable make) = taking_removable make
+reads (Continuing make) = continuing make
+reads (Logging f) = logging f
+
+-- the arguments of a function
+abbrev pub form : FuncName → Form
+form f = reads (row f).form
 
 -- a function stands where it works: in `route[NAME]`, or directly in a block of a kind that lists it
-abbrev pub may_stand : Func → RouteKind → Bool
+abbrev pub may_stand : FuncName → RouteKind → Bool
 may_stand f Route = true
 may_stand f (Begins kind) = stands_in f kind
 
 -- a call of the function of this name, in a block of this kind
 abbrev pub function_call : Known → RouteKind → Word → List RawArg → Checked FuncWith
-function_call known kind w args = from_some (named w.text functions) 6 w.at (λ (like, form).
-    unless (if may_stand like kind then None else Some (record { kind = 7; at = w.at })) (form known w.at args))
+function_call known kind w args = from_some (function_named w.text) 6 w.at (λ f.
+    unless (if may_stand f kind then None else Some (record { kind = 7; at = w.at })) (form f known w.at args))

@@ -10,3 +10,4 @@ pub mod Functions
 pub mod Settings
 pub mod Checks
 pub mod SmallTrees
+pub mod Closed

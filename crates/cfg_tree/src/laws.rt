@@ -10,8 +10,11 @@ ghost use Rattle.pv_values.specs.declared.variable.PvUse.TheVariants.{CallId};
 ghost use Rattle.pv_values.specs.declared.function.Func.TheVariants.{Xlog};
 ghost use Rattle.cfg_tree.specs.Meaning.{meaning};
 ghost use Rattle.cfg_tree.specs.Small.{counts_to, route_of_0, sum_past_the_end, rest_of_seven, start, ended, calls_itself, falls_through, stops_early, logs_a_text};
-ghost use Rattle.cfg_tree.specs.Checks.{refusals_of};
 ghost use Rattle.cfg_tree.specs.Grammar.{Derives};
+ghost use Rattle.cfg_tree.specs.declared.raw.RawScript.{RawScript};
+ghost use Rattle.cfg_tree.specs.declared.script.Script.{Script};
+ghost use Rattle.cfg_tree.specs.Checks.{refusals_of, IsAccepted};
+ghost use Rattle.cfg_tree.specs.Closed.{IsClosed, IsClosedWith, kinds_of};
 ghost use Rattle.cfg_tree.specs.SmallTrees.{only, no_text, one_name_twice, relays_an_event, unknown_module, unknown_variable, branching_tokens, branching_items, no_pattern};
 
 /// `$var(i) = 0; while ($var(i) < 100) { $var(i) = $var(i) + 1; }`: a loop may make a hundred rounds.
@@ -94,4 +97,11 @@ pub fn an_if_with_else_is_derived()
 /// `$ru =~ "("`: kind 12 at the string, which `regex`'s grammar doesn't read.
 pub fn a_text_that_is_no_pattern_is_refused()
     ensures { refusals_of no_pattern ≡ only 12 22 25 }
+{}
+
+/// Every number in an accepted script names something that is there, and each block that it names is of
+/// the right kind.
+pub fn an_accepted_script_is_closed()
+    ensures closed { (raw : RawScript) (script : Script) → IsAccepted raw script → IsClosed script }
+    ensures kinds { (raw : RawScript) (script : Script) → IsAccepted raw script → IsClosedWith (kinds_of raw) script }
 {}

@@ -23,8 +23,8 @@ pub fn transform(alloc: Global, transformation: Transformation, v: &Val) -> Resu
         Val::Text(text) => match transformation {
             Transformation::Length => Ok(length_value(text.bytes())),
             Transformation::Number => Ok(number_value(as_int(v))),
-            Transformation::UriUser => user_value(alloc, text.bytes()),
-            Transformation::UriHost => host_value(alloc, text.bytes()),
+            Transformation::UriUser => uri_user(alloc, text.bytes()),
+            Transformation::UriHost => uri_host(alloc, text.bytes()),
         },
     }
 }
@@ -56,8 +56,8 @@ fn part_value(alloc: Global, text: &[u8], part: Option<Span>) -> Result<Val, NoM
     }
 }
 
-/// The user of the `sip` or `sips` URI that the text is.
-fn user_value(alloc: Global, text: &[u8]) -> Result<Val, NoMemory>
+/// The user of the `sip` or `sips` URI that the text is; `$null` of any other text.
+pub fn uri_user(alloc: Global, text: &[u8]) -> Result<Val, NoMemory>
     ensures { IfOk result (λ v. v ≡ user_in text.now (uri_at text.now 0)) }
 {
     let all = Span {
@@ -74,7 +74,7 @@ fn user_value(alloc: Global, text: &[u8]) -> Result<Val, NoMemory>
 }
 
 /// The host of such a URI.
-fn host_value(alloc: Global, text: &[u8]) -> Result<Val, NoMemory>
+pub fn uri_host(alloc: Global, text: &[u8]) -> Result<Val, NoMemory>
     ensures { IfOk result (λ v. v ≡ host_in text.now (uri_at text.now 0)) }
 {
     let all = Span {

@@ -1,1 +1,3 @@
 pub mod Talk
+pub mod Course
+pub mod Items

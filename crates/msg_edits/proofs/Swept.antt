@@ -11,7 +11,8 @@ use Rattle.msg_edits.specs.declared.parts.Edit.TheVariants.{Cut, Insert}
 use Rattle.msg_edits.specs.declared.sweep.Progress.{Progress}
 use Rattle.msg_edits.specs.Edited.{has_byte, is_cut, inserted_at, edited_from, edited}
 use Rattle.msg_edits.specs.Laws.{IsElsewhere}
-use Rattle.msg_edits.specs.Writing.{edit_place, numbered, picked, AllFrom, IsByPlace, IsWrittenSoFar, IsSwept}
+use Rattle.sip_words.specs.Room.{IsWrittenSoFar}
+use Rattle.msg_edits.specs.Writing.{edit_place, numbered, picked, AllFrom, IsByPlace, IsSwept}
 use Rattle.msg_edits.proofs.Steps.{cut_push}
 use Rattle.msg_edits.proofs.Pieces.{alike_piece}
 use Rattle.msg_edits.proofs.Grown.{insert_elsewhere, insert_here, insert_cuts, cut_inserts, cut_elsewhere, has_below, elsewhere_law}

@@ -1,5 +1,6 @@
 -- What the writing of a text does.
 use Rattle.std.specs.Prelude.{◌≡◌, ℕ, suc, ◌-◌, ◌^◌, ◌<◌, ◌≤◌, List, [], ◌∷◌, ◌++◌, All, IfOk, IfErr, OnOk, OnErr, Result, length, take, drop, map, min, nat_lt, slice_index_or}
+pub use Rattle.sip_words.specs.Room.{IsWrittenSoFar}
 use Rattle.msg_edits.specs.declared.parts.Edit.{Edit}
 use Rattle.msg_edits.specs.declared.parts.Edit.TheVariants.{Cut, Insert}
 use Rattle.msg_edits.specs.declared.writing.TooLong.{TooLong}
@@ -16,12 +17,6 @@ pub record IsWritten (text old new : List ℕ) (result : Result ℕ TooLong) : T
   pub too_long : IfErr result (λ e. e.len ≡ min (length text) (2 ^ 64 - 1))
   pub no_room : OnErr result (length old < length text)
   pub refused : OnErr result (new ≡ old)
-
--- the text is counted, as far as the count goes, and stands in front where the room is enough for it
-pub record IsWrittenSoFar (room out : List ℕ) (len : ℕ) (text : List ℕ) : Type 0 where
-  pub same_room : length out ≡ length room
-  pub count : len ≡ min (length text) (2 ^ 64 - 1)
-  pub bytes : length text ≤ length room → out ≡ text ++ drop (length text) room
 
 -- the edits of a text, in the order of making
 abbrev pub edits_of : Changes → List Edit

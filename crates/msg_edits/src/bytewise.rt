@@ -2,11 +2,12 @@
 ghost use Rattle.std.specs.Prelude.{◌≡◌, ◌<◌, ◌≤◌, ◌+◌, ℕ, List, ◌++◌, length};
 ghost use Rattle.msg_edits.specs.Edited.{cuts_byte, text_at, is_cut, inserted_at, edited};
 ghost use Rattle.msg_edits.specs.Change.{edit_of};
-ghost use Rattle.msg_edits.specs.Writing.{edits_of, IsWrittenSoFar};
+ghost use Rattle.sip_words.specs.Room.{IsWrittenSoFar};
+ghost use Rattle.msg_edits.specs.Writing.{edits_of};
 
 use crate::changes::Changes;
 use crate::parts::Change;
-use crate::sweep::put;
+use sip_words::put;
 
 impl<'a> Changes<'a> {
     /// Writes as much of the text as fits, in whole pieces, and answers the length of all of it, held at the end of

@@ -22,6 +22,6 @@ mod tests;
 mod writing;
 
 pub use list::{EditFault, Edits, LIMIT};
-pub use parts::{Change, Edit, Text};
+pub use parts::{Change, Edit};
 pub use sip_words::Span;
 pub use writing::{TooLong, apply, apply_after};

@@ -3,8 +3,9 @@ ghost use Rattle.std.specs.Prelude.{◌≡◌, ◌==◌, ◌<◌, ◌≤◌, ℕ
 ghost use Rattle.msg_edits.specs.Edited.{has_byte, is_cut};
 ghost use Rattle.msg_edits.specs.Causes.{MeetsCut};
 
-use crate::parts::{Edit, Text};
+use crate::parts::Edit;
 use arrayvec::ArrayVec;
+use outside_ports::Bytes;
 use sip_words::Span;
 use std::alloc::Global;
 use std::marker::Model;
@@ -19,11 +20,19 @@ pub enum EditFault {
     Overlap,
     /// There are 64 edits already. This goes before `Overlap`.
     Full,
-    /// No memory was found for the inserted text.
+    /// Out of memory for the inserted text.
     NoMemory,
 }
 
 /// The edits of one message, in the order of making. Contracts see them as that list.
+///
+/// ```
+/// let mut edits = Edits::new();
+/// edits.cut(Span { from: 1, to: 3 })?;
+/// edits.insert(alloc, 1, b"X")?;
+/// let len = apply(b"abcdef", edits.as_slice(), &mut room)?; // 5
+/// &room[..len]; // aXdef
+/// ```
 #[derive(Drop)]
 pub struct Edits {
     list: ArrayVec<Edit, LIMIT>,
@@ -84,9 +93,10 @@ impl Edits {
         if self.list.is_full() {
             return Err(EditFault::Full);
         }
-        let Ok(text) = Text::of(alloc, text) else {
+        let Ok(copy) = Vec::from_slice(alloc, text) else {
             return Err(EditFault::NoMemory);
         };
+        let text = Bytes::of(copy);
         self.list.push(Edit::Insert { place, text });
         Ok(())
     }

@@ -3,10 +3,12 @@ ghost use Rattle.std.specs.Prelude.{◌≡◌, ◌<◌, ◌≤◌, ◌+◌, ℕ,
 ghost use Rattle.msg_edits.specs.declared.parts.Edit.{Edit};
 ghost use Rattle.msg_edits.specs.Edited.{edited};
 ghost use Rattle.msg_edits.specs.Change.{edit_of};
-ghost use Rattle.msg_edits.specs.Writing.{edits_of, edit_place, picked, IsOrder, SameEdits, IsSwept, IsWrittenSoFar};
+ghost use Rattle.sip_words.specs.Room.{IsWrittenSoFar};
+ghost use Rattle.msg_edits.specs.Writing.{edits_of, edit_place, picked, IsOrder, SameEdits, IsSwept};
 
 use crate::changes::Changes;
 use crate::parts::Change;
+use sip_words::put;
 
 /// How far a text is written.
 #[derive(Clone, Copy)]
@@ -69,15 +71,4 @@ impl Progress {
             },
         }
     }
-}
-
-/// Writes `piece` behind the first `len` bytes where it fits, and answers the length with it.
-pub fn put(out: &mut [u8], len: usize, piece: &[u8]) -> usize
-    ensures { (room text : List ℕ) → IsWrittenSoFar room out.old len text → IsWrittenSoFar room out.new result (text ++ piece.now) }
-{
-    let end = len.saturating_add(piece.len());
-    if end <= out.len() {
-        out[len..end].copy_from_slice(piece);
-    }
-    end
 }

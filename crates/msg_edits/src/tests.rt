@@ -166,3 +166,14 @@ fn many_changes(rt: HostRuntime) {
     assert_eq!(rt; &room[81..84], b"ef!".as_slice());
     assert!(rt; room[84..].iter().all(|b| *b == 7));
 }
+
+/// The example of [`Edits`].
+#[test]
+fn a_cut_and_an_insert_replace_two_bytes(rt: HostRuntime) {
+    let mut edits = Edits::new();
+    assert!(rt; edits.cut(Span { from: 1, to: 3 }).is_ok());
+    assert!(rt; edits.insert(rt.alloc(), 1, b"X").is_ok());
+    let mut room = [0; 8];
+    assert!(rt; apply(TEXT, edits.as_slice(), &mut room) == Ok(5));
+    assert_eq!(rt; &room[..5], b"aXdef".as_slice());
+}

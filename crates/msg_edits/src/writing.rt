@@ -2,7 +2,8 @@
 ghost use Rattle.std.specs.Prelude.{map, ◌++◌, ◌≤◌, length};
 ghost use Rattle.msg_edits.specs.Edited.{edited};
 ghost use Rattle.msg_edits.specs.Change.{edit_of};
-ghost use Rattle.msg_edits.specs.Writing.{edits_of, IsWritten, IsWrittenSoFar};
+ghost use Rattle.sip_words.specs.Room.{IsWrittenSoFar};
+ghost use Rattle.msg_edits.specs.Writing.{edits_of, IsWritten};
 
 use crate::changes::{Changes, ORDERED};
 use crate::parts::{Change, Edit};

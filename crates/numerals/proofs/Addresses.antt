@@ -13,7 +13,7 @@ use Rattle.std.proofs.lemmas.Str.Parse.{numerals_by_value, tells_digits, not_in_
 use Rattle.std.proofs.lemmas.Fmt.{decimal_is_IsNumeral, decimal_injective}
 use Rattle.std.proofs.lemmas.List.Elements.{All-from_get_or, All-append, All-cons, All-head, All-tail}
 use Rattle.numerals.specs.Numerals.{dotted, socket, IsSocket}
-use Rattle.numerals.specs.Splits.{SplitsAt, Lacks}
+use Rattle.sip_words.specs.Splits.{SplitsAt, Lacks}
 
 -- a list is split at the first byte of a kind in one way
 pub split_one_way : (byte : ℕ) (front back front' back' : List ℕ) → front ++ byte ∷ back ≡ front' ++ byte ∷ back'

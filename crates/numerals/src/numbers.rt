@@ -1,12 +1,11 @@
-// Numbers and addresses in decimal, as scenarios, traces and messages write them.
-
+//! Numbers and addresses in decimal, as scenarios, traces and messages write them.
 ghost use Rattle.std.specs.Prelude.{◌≡◌, ◌^◌, ◌<◌, ◌++◌, ℕ, IfSome, IfNone, OnOk};
 ghost use Rattle.std.specs.Fmt.{decimal};
 ghost use Rattle.outside_ports.specs.declared.port.Addr.{Addr as Address};
 ghost use Rattle.numerals.specs.Numerals.{begins_number, IsNumber, IsSocket, dotted, socket};
-ghost use Rattle.numerals.specs.Splits.{SplitsAt, Lacks};
 
 use outside_ports::Addr;
+use sip_words::split_once;
 use std::alloc::{AllocError as NoMemory, Global};
 use std::net::Ipv4Addr;
 
@@ -29,15 +28,6 @@ pub fn number(word: &[u8]) -> Option<u64>
         return None;
     };
     digits.parse::<u64>().ok()
-}
-
-/// What stands before and behind the first of these bytes.
-pub fn split_once(bytes: &[u8], byte: u8) -> Option<(&[u8], &[u8])>
-    ensures found { IfSome result (λ parts. SplitsAt byte bytes.now parts.0.now parts.1.now) }
-    ensures none { IfNone result (Lacks byte bytes.now) }
-{
-    let at = bytes.iter().position(|b| *b == byte)?;
-    Some((&bytes[..at], &bytes[at + 1..]))
 }
 
 /// Four numbers 0 to 255 with dots, the first one highest.
@@ -63,6 +53,12 @@ fn port(word: &[u8]) -> Option<u16>
 }
 
 /// An address `IP:PORT`, with a port from 1 on.
+///
+/// ```
+/// address(b"192.0.2.1:5060"); // Some(Addr { ip: 0xc000_0201, port: 5060 })
+/// address(b"192.0.2.01:5060"); // None, since a zero leads
+/// address(b"192.0.2.1:0"); // None
+/// ```
 pub fn address(word: &[u8]) -> Option<Addr>
     ensures found { IfSome result (IsSocket word.now) }
     ensures none { IfNone result ((address : Address) → IsSocket word.now address → ⊥) }

@@ -1,4 +1,5 @@
-use crate::{address, number, push_address, split_once};
+//! Numbers and addresses, read and written.
+use crate::{address, number, push_address};
 use outside_ports::Addr;
 use std::test::Fail;
 
@@ -55,7 +56,5 @@ fn addresses_are_written_as_they_are_read(rt: HostRuntime) -> Result<(), Fail> {
             assert!(rt; text.as_slice() == word);
         }
     }
-    assert!(rt; split_once(b"a:b:c", b':') == Some((b"a".as_slice(), b"b:c".as_slice())));
-    assert!(rt; split_once(b"abc", b':').is_none());
     Ok(())
 }

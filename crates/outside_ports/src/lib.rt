@@ -9,7 +9,9 @@
 mod bytes;
 mod calls;
 mod console;
+mod feed;
 mod files;
+pub mod laws;
 mod mem_console;
 mod mem_files;
 mod mem_port;
@@ -22,5 +24,5 @@ pub use console::{Console, PrintEnd};
 pub use files::{FileFault, Files};
 pub use mem_console::MemConsole;
 pub use mem_files::MemFiles;
-pub use mem_port::{Arrival, MemPort};
-pub use port::{Addr, Datagram, Port, Recv, RecvCall, SendEnd};
+pub use mem_port::MemPort;
+pub use port::{Addr, Arrival, Datagram, Port, PortCall, Recv, RecvCall, RecvEnd, SendEnd};

@@ -1,7 +1,7 @@
 -- The arrivals of a draft.
 use Rattle.std.proofs.Common.{◌≡◌, ℕ, List, [], ◌∷◌, ◌++◌, refl, Option, Some, None}
 use Rattle.std.specs.Prelude.{IsSome}
-use Rattle.outside_ports.specs.declared.mem_port.Arrival.{Arrival}
+use Rattle.outside_ports.specs.declared.port.Arrival.{Arrival}
 use Rattle.proxy_top.specs.Scenario.{last_moment}
 
 pub last_moment_push : (before : List Arrival) (a : Arrival) → last_moment (before ++ a ∷ []) ≡ a.at

@@ -9,7 +9,7 @@ use Rattle.outside_ports.specs.declared.port.Addr.{Addr}
 use Rattle.proxy_top.specs.declared.scenario.Line.{Line}
 use Rattle.proxy_top.specs.declared.scenario.Line.TheVariants.{In, Text, End, Skipped}
 use Rattle.numerals.specs.Numerals.{IsNumber, IsSocket}
-use Rattle.numerals.specs.Splits.{SplitsAt, Lacks}
+use Rattle.sip_words.specs.Splits.{SplitsAt, Lacks}
 use Rattle.proxy_top.specs.Scenario.{State, IsLine, Takes}
 use Rattle.numerals.proofs.Addresses.{decimal_lacks, only_split, not_split, split_one_way, same_socket}
 

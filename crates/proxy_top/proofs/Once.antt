@@ -1,10 +1,10 @@
 -- A text is one scenario at most, has one first wrong line at most, and never both.
 use Rattle.std.proofs.Common.{◌≡◌, ℕ, List, [], ◌∷◌, ◌++◌, length, refl, sym, ap, ◌∙◌, subst, arith, append_assoc, append-nil}
 use Rattle.std.specs.Prelude.{Some, None}
-use Rattle.outside_ports.specs.declared.mem_port.Arrival.{Arrival}
+use Rattle.outside_ports.specs.declared.port.Arrival.{Arrival}
 use Rattle.proxy_top.specs.declared.scenario.Line.{Line}
 use Rattle.proxy_top.specs.declared.scenario.Line.TheVariants.{In, Text, End, Skipped}
-use Rattle.numerals.specs.Splits.{Lacks}
+use Rattle.sip_words.specs.Splits.{Lacks}
 use Rattle.proxy_top.specs.Scenario.{State, Takes, Fits, Reads, text_of, nothing_read, IsScenario, NothingFits, IsFirstWrong}
 use Rattle.numerals.proofs.Addresses.{split_one_way}
 use Rattle.proxy_top.proofs.Lines.{takes_alike}

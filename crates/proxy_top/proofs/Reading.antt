@@ -4,7 +4,7 @@ use Rattle.std.specs.Prelude.{Some, None}
 use Rattle.std.proofs.lemmas.List.Elements.{All-nil}
 use Rattle.proxy_top.specs.declared.scenario.Line.{Line}
 use Rattle.proxy_top.specs.declared.scenario.Draft.{Draft}
-use Rattle.numerals.specs.Splits.{SplitsAt, Lacks}
+use Rattle.sip_words.specs.Splits.{SplitsAt, Lacks}
 use Rattle.proxy_top.specs.Scenario.{State, IsLine, Takes, Fits, Reads, text_of, nothing_read, IsScenario, NothingFits, IsFirstWrong}
 use Rattle.proxy_top.specs.Draft.{IsDraft, shown}
 use Rattle.numerals.proofs.Addresses.{only_split, not_split}

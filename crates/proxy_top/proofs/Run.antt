@@ -1,6 +1,6 @@
 -- The run of a scenario, datagram by datagram.
 use Rattle.std.proofs.Common.{◌≡◌, ℕ, ◌≤◌, List, [], ◌∷◌, ◌++◌, sym, ◌∙◌, append_assoc, append-nil, arith}
-use Rattle.outside_ports.specs.declared.mem_port.Arrival.{Arrival}
+use Rattle.outside_ports.specs.declared.port.Arrival.{Arrival}
 use Rattle.outside_ports.specs.MemPort.{IsInOrder, PortState, next_moment}
 use Rattle.proxy_top.specs.declared.script.AnswerAll.{AnswerAll}
 use Rattle.proxy_top.specs.Handled.{Handled, AtTheEnd}

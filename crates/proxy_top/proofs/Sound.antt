@@ -3,7 +3,7 @@ use Rattle.std.proofs.Common.{◌≡◌, ℕ, ◌+◌, ◌≤◌, List, [], ◌�
 use Rattle.std.specs.Prelude.{All, unwrap_or}
 use Rattle.std.proofs.Math.ListN.{get_or-append}
 use Rattle.std.proofs.lemmas.List.Elements.{All-push}
-use Rattle.outside_ports.specs.declared.mem_port.Arrival.{Arrival}
+use Rattle.outside_ports.specs.declared.port.Arrival.{Arrival}
 use Rattle.outside_ports.specs.MemPort.{IsInOrder, IsShort}
 use Rattle.proxy_top.specs.declared.scenario.Line.{Line}
 use Rattle.proxy_top.specs.declared.scenario.Line.TheVariants.{In, Text, End, Skipped}

@@ -1,6 +1,6 @@
 -- What a draft of a scenario stands for.
 use Rattle.std.specs.Prelude.{◌≡◌, List, [], ◌∷◌, ◌++◌, Option, None, Some, IsSome}
-use Rattle.outside_ports.specs.declared.mem_port.Arrival.{Arrival}
+use Rattle.outside_ports.specs.declared.port.Arrival.{Arrival}
 use Rattle.proxy_top.specs.declared.scenario.Pending.{Pending}
 use Rattle.proxy_top.specs.declared.scenario.Draft.{Draft}
 use Rattle.proxy_top.specs.Scenario.{State}

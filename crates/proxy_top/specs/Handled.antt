@@ -1,6 +1,6 @@
 -- What a turn of the run leaves.
 use Rattle.std.specs.Prelude.{◌≡◌, ℕ, Bool, true, false, List, [], ◌∷◌, ◌++◌}
-use Rattle.outside_ports.specs.declared.mem_port.Arrival.{Arrival}
+use Rattle.outside_ports.specs.declared.port.Arrival.{Arrival}
 use Rattle.outside_ports.specs.MemPort.{PortState}
 use Rattle.proxy_top.specs.declared.script.AnswerAll.{AnswerAll}
 use Rattle.proxy_top.specs.Solo.{entry_of, entry_text}

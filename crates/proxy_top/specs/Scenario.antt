@@ -1,10 +1,10 @@
 -- A scenario: the form of each line by itself, and what a line adds to what was read before it.
 use Rattle.std.specs.Prelude.{◌≡◌, ℕ, ◌+◌, ◌≤◌, ◌⊎◌, List, [], ◌∷◌, ◌++◌, Option, None, Some, length, codes}
-use Rattle.outside_ports.specs.declared.mem_port.Arrival.{Arrival}
+use Rattle.outside_ports.specs.declared.port.Arrival.{Arrival}
 use Rattle.proxy_top.specs.declared.scenario.Line.{Line}
 use Rattle.proxy_top.specs.declared.scenario.Line.TheVariants.{In, Text, End, Skipped}
 use Rattle.numerals.specs.Numerals.{IsNumber, IsSocket}
-use Rattle.numerals.specs.Splits.{Lacks}
+use Rattle.sip_words.specs.Splits.{Lacks}
 
 -- the bytes, without LF, are this line by itself
 abbrev pub IsLine : List ℕ → Line → Type 0

@@ -2,7 +2,7 @@
 use Rattle.std.specs.Prelude.{ℕ, List, ◌++◌, map, Option, None, Some}
 use Rattle.std.specs.List.{flat_map}
 use Rattle.outside_ports.specs.declared.port.Addr.{Addr}
-use Rattle.outside_ports.specs.declared.mem_port.Arrival.{Arrival}
+use Rattle.outside_ports.specs.declared.port.Arrival.{Arrival}
 use Rattle.sip_msg.specs.declared.plain.PlainRequest.{PlainRequest}
 use Rattle.sip_msg.specs.PlainReader.{plain_at}
 use Rattle.proxy_top.specs.declared.script.AnswerAll.{AnswerAll}

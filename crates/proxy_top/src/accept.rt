@@ -13,7 +13,7 @@ use cfg_lex::laws::{
 use cfg_lex::lex;
 use cfg_parse::laws::one_tree_at_most;
 use cfg_parse::parse;
-use cfg_tree::Script;
+use cfg_tree::ClosedScript;
 use pv_values::ScriptFault;
 use std::alloc::Global;
 
@@ -22,7 +22,7 @@ use std::alloc::Global;
 /// A script is given exactly where the text is accepted, and a refusal exactly where it is refused; either may be want
 /// of memory in its place. A refusal has the kind of the text's first, and, but for kind 3 (`Syntax`), begins at the
 /// byte where that begins. The place of a `Syntax` is the one that `parse` gives.
-pub fn accepted(alloc: Global, text: &[u8]) -> Result<Script, ScriptFault>
+pub fn accepted(alloc: Global, text: &[u8]) -> Result<ClosedScript, ScriptFault>
     ensures accepted { IfOk result (AcceptsText text.now) }
     ensures refused { IfErr result (IsRefusalOf text.now) }
     ensures whole { (script : Script) → AcceptsText text.now script → GivesScript script result }

@@ -1,7 +1,7 @@
 //! The answer to a plain request (RFC 3261, section 8.2.6).
 
 ghost use Rattle.std.specs.Prelude.{◌≡◌, ◌≤◌, ◌++◌, length, drop, IfOk, OnOk};
-ghost use Rattle.sip_msg.specs.PlainPlaces.{LiesIn};
+ghost use Rattle.sip_msg.specs.PlainPlaces.{PlainLiesIn};
 ghost use Rattle.proxy_top.specs.Reply.{crlf, part, status_line, via_line, to_line, reply};
 
 use crate::script::AnswerAll;
@@ -23,7 +23,7 @@ pub fn plain_reply(
     from: Addr,
     answer: AnswerAll<'_>,
 ) -> Result<Vec<u8>, NoMemory>
-    requires { LiesIn b.now plain.now }
+    requires { PlainLiesIn b.now plain.now }
     ensures { IfOk result (λ text. text.items ≡ reply b.now plain.now from answer.entry) }
 {
     let mut text = Vec::new(alloc);
@@ -57,7 +57,7 @@ fn push_via(
     plain: &PlainRequest,
     from: Addr,
 ) -> Result<(), NoMemory>
-    requires { LiesIn b.now plain.now }
+    requires { PlainLiesIn b.now plain.now }
     ensures { OnOk result (text.new.items ≡ text.old.items ++ via_line b.now plain.now from) }
 {
     text.extend_from_slice(&b[plain.via.from..plain.rport])?;
@@ -70,7 +70,7 @@ fn push_via(
 }
 
 fn push_to(text: &mut Vec<u8>, b: &[u8], plain: &PlainRequest) -> Result<(), NoMemory>
-    requires { LiesIn b.now plain.now }
+    requires { PlainLiesIn b.now plain.now }
     ensures { OnOk result (text.new.items ≡ text.old.items ++ to_line b.now plain.now) }
 {
     text.extend_from_slice(&b[plain.to.from..plain.to.to])?;

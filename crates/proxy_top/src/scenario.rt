@@ -7,8 +7,9 @@ ghost use Rattle.proxy_top.specs.declared.scenario.Line.{Line as LineForm};
 ghost use Rattle.proxy_top.specs.Scenario.{State, IsLine, Takes, IsScenario, IsFirstWrong, last_moment, nothing_read};
 ghost use Rattle.proxy_top.specs.Draft.{IsDraft, shown};
 
-use numerals::{address, number, split_once};
+use numerals::{address, number};
 use outside_ports::{Addr, Arrival, Bytes};
+use sip_words::split_once;
 use std::alloc::{AllocError as NoMemory, Global};
 
 /// The longest datagram, in bytes: what UDP over IPv4 carries.

@@ -1,4 +1,9 @@
 //! The commands over files and a console in memory. Expected texts are worked out by hand.
+
+mod checks;
+mod runs;
+mod syntax;
+
 use crate::simulate;
 use outside_ports::{MemConsole, MemFiles};
 use std::alloc::Global;

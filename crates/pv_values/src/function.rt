@@ -1,9 +1,9 @@
-// The functions that a run calls at its host.
+//! The functions that a run calls at its host.
 
 ghost use Rattle.std.specs.Prelude.{◌≡◌, IfOk};
-ghost use Rattle.pv_values.specs.Kinds.{stands_in};
+ghost use Rattle.pv_values.specs.Kinds.{name_of};
 
-use crate::block::BlockKind;
+use crate::function_name::FuncName;
 use crate::text::Text;
 use std::alloc::{AllocError as NoMemory, Global};
 
@@ -95,37 +95,36 @@ impl Func {
         }
     }
 
-    /// The function works in a run that a block of this kind began.
-    pub fn stands_in(&self, kind: BlockKind) -> bool
-        ensures { result ≡ stands_in self.now kind }
+    /// The function without its arguments.
+    pub fn name(&self) -> FuncName
+        ensures { result ≡ name_of self.now }
     {
         match self {
-            Func::SlSendReply(_)
-            | Func::TNewtran
-            | Func::TCheckTrans
-            | Func::TSuspend
-            | Func::MfProcessMaxfwdHeader(_)
-            | Func::RecordRoute
-            | Func::LooseRoute => matches!(kind, BlockKind::Request),
-            Func::TReply(_)
-            | Func::TRelay
-            | Func::AppendBranch
-            | Func::TOnBranch(_)
-            | Func::TOnFailure(_)
-            | Func::TOnReply(_)
-            | Func::TSetFr => matches!(kind, BlockKind::Request | BlockKind::Failure),
-            Func::TIsCanceled => {
-                matches!(
-                    kind,
-                    BlockKind::Request | BlockKind::Failure | BlockKind::Reply
-                )
-            }
-            Func::TCheckStatus(_) => matches!(kind, BlockKind::Failure | BlockKind::Reply),
-            Func::TContinue(_) => !matches!(kind, BlockKind::Branch),
-            Func::HasTotag | Func::IsPresentHf(_) | Func::RemoveHf(_) | Func::AppendHf => {
-                !matches!(kind, BlockKind::Event)
-            }
-            Func::IsMethod(_) | Func::Xlog | Func::ShtRmNameRe(_, _) | Func::ShtReset(_) => true,
+            Func::SlSendReply(_) => FuncName::SlSendReply,
+            Func::TNewtran => FuncName::TNewtran,
+            Func::TReply(_) => FuncName::TReply,
+            Func::TRelay => FuncName::TRelay,
+            Func::AppendBranch => FuncName::AppendBranch,
+            Func::TOnBranch(_) => FuncName::TOnBranch,
+            Func::TOnFailure(_) => FuncName::TOnFailure,
+            Func::TOnReply(_) => FuncName::TOnReply,
+            Func::TSetFr => FuncName::TSetFr,
+            Func::TCheckTrans => FuncName::TCheckTrans,
+            Func::TIsCanceled => FuncName::TIsCanceled,
+            Func::TCheckStatus(_) => FuncName::TCheckStatus,
+            Func::TSuspend => FuncName::TSuspend,
+            Func::TContinue(_) => FuncName::TContinue,
+            Func::IsMethod(_) => FuncName::IsMethod,
+            Func::HasTotag => FuncName::HasTotag,
+            Func::IsPresentHf(_) => FuncName::IsPresentHf,
+            Func::RemoveHf(_) => FuncName::RemoveHf,
+            Func::AppendHf => FuncName::AppendHf,
+            Func::MfProcessMaxfwdHeader(_) => FuncName::MfProcessMaxfwdHeader,
+            Func::RecordRoute => FuncName::RecordRoute,
+            Func::LooseRoute => FuncName::LooseRoute,
+            Func::Xlog => FuncName::Xlog,
+            Func::ShtRmNameRe(_, _) => FuncName::ShtRmNameRe,
+            Func::ShtReset(_) => FuncName::ShtReset,
         }
     }
 }

@@ -8,6 +8,7 @@
 
 pub mod block;
 pub mod function;
+pub mod function_name;
 pub mod matcher;
 pub mod number;
 pub mod operator;
@@ -22,6 +23,7 @@ pub mod variable;
 
 pub use block::BlockKind;
 pub use function::Func;
+pub use function_name::{Blocks, FuncName};
 pub use matcher::{Matchers, PatternMatcher};
 pub use operator::{BinOp, binary, operate};
 pub use pattern::{Pattern, PatternFault, Patterns};
@@ -30,7 +32,7 @@ pub use refusal::{Place, ScriptFault};
 pub use run::{Env, HostAnswer, HostAsk, How};
 pub use table::{Key, TableSpec};
 pub use text::Text;
-pub use value::{Val, Vals, as_int, as_text, truth};
+pub use value::{Val, Vals, as_int, as_text, into_text, truth};
 pub use variable::{PvUse, Transformation};
 
 #[cfg(test)]

@@ -1,7 +1,7 @@
 // What the operators give, worked out by hand from the rules.
 
 use crate::{
-    BinOp, BlockKind, Func, Pattern, PatternFault, Patterns, PvUse, Text, Val, as_int, as_text,
+    BinOp, BlockKind, FuncName, Pattern, PatternFault, Patterns, PvUse, Text, Val, as_int, as_text,
     binary, truth,
 };
 use std::alloc::{AllocError, Global};
@@ -249,10 +249,10 @@ fn a_matcher_is_kept_from_match_to_match(rt: HostRuntime) -> Result<(), Fail> {
 
 #[test]
 fn functions_and_variables_know_their_blocks(rt: HostRuntime) {
-    assert!(rt; Func::TRelay.stands_in(BlockKind::Failure));
-    assert!(rt; !Func::TRelay.stands_in(BlockKind::Branch));
-    assert!(rt; !Func::TContinue(0).stands_in(BlockKind::Branch));
-    assert!(rt; Func::TContinue(0).stands_in(BlockKind::Event));
+    assert!(rt; FuncName::TRelay.stands_in(BlockKind::Failure));
+    assert!(rt; !FuncName::TRelay.stands_in(BlockKind::Branch));
+    assert!(rt; !FuncName::TContinue.stands_in(BlockKind::Branch));
+    assert!(rt; FuncName::TContinue.stands_in(BlockKind::Event));
     assert!(rt; PvUse::RequestUri.is_written_in(BlockKind::Branch));
     assert!(rt; !PvUse::RequestUri.is_written_in(BlockKind::Reply));
     assert!(rt; !PvUse::CallId.is_written_in(BlockKind::Request));

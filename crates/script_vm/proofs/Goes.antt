@@ -6,7 +6,7 @@ use Rattle.pv_values.specs.declared.run.HostAsk.{HostAsk}
 use Rattle.pv_values.specs.declared.run.HostAnswer.{HostAnswer}
 use Rattle.dialogue.specs.Talk.{Ends, Asks}
 use Rattle.cfg_tree.specs.Meaning.{End, RunTalk}
-use Rattle.cfg_code.specs.declared.code.Loaded.{Loaded}
+use Rattle.cfg_code.specs.Flat.{FlatScript}
 use Rattle.cfg_code.specs.declared.machine.Event.TheVariants.{Moved, Asked, Over, Stuck}
 use Rattle.cfg_code.specs.declared.machine.Wait.TheVariants as wait
 use Rattle.cfg_code.specs.Machine.{Configuration, IsOpen, step_of, asked_of, told, begun}
@@ -16,7 +16,7 @@ use Rattle.script_vm.specs.declared.run.Went.TheVariants as went
 use Rattle.script_vm.specs.declared.run.RunNext.TheVariants.{Asks as RunAsks, Ended as RunEnded}
 use Rattle.script_vm.specs.Running.{IsWent, IsNext, how_ended, with_patterns}
 
-module _ (loaded : Loaded) where
+module _ (loaded : FlatScript) where
   pub goes_on : (r r' : Configuration) (t : RunTalk) → step_of loaded r ≡ record { event = Moved; run = r' } → Behaves loaded r t → Behaves loaded r' t
   goes_on _ r' _ is (moves r t e b) = subst (λ n. Behaves loaded n.run t) is b
   goes_on _ r' _ is (asks r a next e f o k) = absurd (let g : Asked ≡ Moved = sym e ∙ ap (λ n. n.event) is in cc)
@@ -67,7 +67,7 @@ module _ (loaded : Loaded) where
       ap (λ x. record { env = x; how = how }) (e ∙ h.0) ∙ ap (λ y. record { env = end.env; how = y }) (f ∙ ap how_ended h.1)
 
 -- the same of the steps with patterns that are told to be these
-module _ (loaded : Loaded) (ps qs : List (List ℕ)) (same : ps ≡ qs) where
+module _ (loaded : FlatScript) (ps qs : List (List ℕ)) (same : ps ≡ qs) where
   pub goes_on_by : (r r' : Configuration) (t : RunTalk) → step_of (with_patterns ps loaded) r ≡ record { event = Moved; run = r' } → Behaves (with_patterns qs loaded) r t → Behaves (with_patterns qs loaded) r' t
   goes_on_by r r' t is b = goes_on (with_patterns qs loaded) r r' t (subst (λ m. step_of (with_patterns m loaded) r ≡ record { event = Moved; run = r' }) same is) b
 

@@ -9,7 +9,7 @@ use Rattle.pv_values.specs.declared.run.HostAnswer.{HostAnswer}
 use Rattle.pv_values.specs.Values.{is_true, same as is_label}
 use Rattle.cfg_code.specs.declared.instr.Instr.{Instr}
 use Rattle.cfg_code.specs.declared.instr.Instr.TheVariants.{Push, Load, LoadCode, LoadSuccess, Store, Read, ReadItem, Write, WriteItem, Transform, Concat, PushArgument, CallFunction, ExitOnZero, CallBlock, Binary, Negate, Not, ToBool, Match, JumpIfFalseOrPop, JumpIfTrueOrPop, Pop, CountStatement, JumpIfFalse, Jump, Case, BeginLoop, BeginRound, LoopBack, EndLoop, Break, Return, Exit, Drop, EndBlock}
-use Rattle.cfg_code.specs.declared.code.Loaded.{Loaded}
+use Rattle.cfg_code.specs.Flat.{FlatScript}
 use Rattle.cfg_code.specs.declared.machine.Frame.{Frame}
 use Rattle.cfg_code.specs.declared.machine.Frame.TheVariants.{Loop, Back}
 use Rattle.cfg_code.specs.declared.machine.Event.{Event}
@@ -179,7 +179,7 @@ module _ (n : ℕ) where
       let m : r.statements_left * ceiling n ≡ k * ceiling n + ceiling n = ap (λ x. x * ceiling n) left ∙ grind arith in
       omega (arith, w, m, power_pos n (2 ^ 32))
 
-  act_less : (loaded : Loaded) (i : Instr) (r : Configuration) → r.pc < n → r.calls_left < 2 ^ 32 → Less r (act loaded i (behind r))
+  act_less : (loaded : FlatScript) (i : Instr) (r : Configuration) → r.pc < n → r.calls_left < 2 ^ 32 → Less r (act loaded i (behind r))
   act_less loaded (Push v) r w d e = further r (r.pc + 1) w (omega arith)
   act_less loaded (Load x) r w d e = further r (r.pc + 1) w (omega arith)
   act_less loaded LoadCode r w d e = further r (r.pc + 1) w (omega arith)
@@ -233,12 +233,12 @@ module _ (n : ℕ) where
   act_less loaded Drop r w d e = absurd e
   act_less loaded EndBlock r w d e = leave_less r.frames _ _ r (behind r) w refl refl e
 
-fetched_less : (loaded : Loaded) (r : Configuration) → r.calls_left < 2 ^ 32 → (o : Option Instr) → slice_get loaded.code.instrs r.pc ≡ o → Less (length loaded.code.instrs) r (fetched loaded o r)
+fetched_less : (loaded : FlatScript) (r : Configuration) → r.calls_left < 2 ^ 32 → (o : Option Instr) → slice_get loaded.code.instrs r.pc ≡ o → Less (length loaded.code.instrs) r (fetched loaded o r)
 fetched_less loaded r d None same e = absurd e
 fetched_less loaded r d (Some i) same e = act_less (length loaded.code.instrs) loaded i r (slice_get_within loaded.code.instrs r.pc i same) d e
 
 -- each instruction after which the run isn't over makes the measure smaller
-pub smaller : (loaded : Loaded) (r r' : Configuration) (event : Event) → step_of loaded r ≡ record { event = event; run = r' } → GoesOn event → r.calls_left < 2 ^ 32 → work_left loaded r' < work_left loaded r
+pub smaller : (loaded : FlatScript) (r r' : Configuration) (event : Event) → step_of loaded r ≡ record { event = event; run = r' } → GoesOn event → r.calls_left < 2 ^ 32 → work_left loaded r' < work_left loaded r
 unfolding work_left
 smaller loaded r r' event is goes d =
     let e : GoesOn (step_of loaded r).event = subst GoesOn (sym (ap (λ x. x.event) is)) goes in
@@ -247,13 +247,13 @@ smaller loaded r r' event is goes d =
     subst (λ x. measure (length loaded.code.instrs) x < measure (length loaded.code.instrs) r) same a
 
 -- the same with other patterns
-pub smaller_by : (patterns : List (List ℕ)) (loaded : Loaded) (r r' : Configuration) (event : Event) → step_of (with_patterns patterns loaded) r ≡ record { event = event; run = r' } → GoesOn event → r.calls_left < 2 ^ 32 →
+pub smaller_by : (patterns : List (List ℕ)) (loaded : FlatScript) (r r' : Configuration) (event : Event) → step_of (with_patterns patterns loaded) r ≡ record { event = event; run = r' } → GoesOn event → r.calls_left < 2 ^ 32 →
     work_left loaded r' < work_left loaded r
 unfolding work_left
 smaller_by patterns loaded r r' event is goes d = smaller (with_patterns patterns loaded) r r' event is goes d
 
 -- an answer leaves it
-pub told_leaves : (loaded : Loaded) (answer : HostAnswer) (w : Wait) (r : Configuration) → work_left loaded (told_as w answer r) ≡ work_left loaded r
+pub told_leaves : (loaded : FlatScript) (answer : HostAnswer) (w : Wait) (r : Configuration) → work_left loaded (told_as w answer r) ≡ work_left loaded r
 unfolding work_left
 told_leaves loaded answer wait.Start r = refl
 told_leaves loaded answer wait.Value r = refl

@@ -1,6 +1,6 @@
 -- A number that falls with each instruction of a run, whatever the code is.
 use Rattle.std.specs.Prelude.{ℕ, zero, suc, ◌+◌, ◌-◌, ◌*◌, ◌^◌, List, [], ◌∷◌, length}
-use Rattle.cfg_code.specs.declared.code.Loaded.{Loaded}
+use Rattle.cfg_code.specs.Flat.{FlatScript}
 use Rattle.cfg_code.specs.declared.machine.Frame.{Frame}
 use Rattle.cfg_code.specs.declared.machine.Frame.TheVariants.{Loop, Back}
 use Rattle.cfg_code.specs.Machine.{Configuration}
@@ -27,5 +27,5 @@ abbrev pub measure : ℕ → Configuration → ℕ
 measure n r = r.statements_left * ceiling n + (rest n r.pc r.calls_left + waiting n r.frames)
 
 -- how much a run may still do
-unfoldable pub work_left : Loaded → Configuration → ℕ
+unfoldable pub work_left : FlatScript → Configuration → ℕ
 work_left loaded r = measure (length loaded.code.instrs) r

@@ -4,7 +4,7 @@ use Rattle.dialogue.specs.Talk.{Ends, Asks}
 use Rattle.pv_values.specs.declared.run.How.{How}
 use Rattle.pv_values.specs.declared.run.How.TheVariants as how
 use Rattle.cfg_tree.specs.Meaning.{RunTalk}
-use Rattle.cfg_code.specs.declared.code.Loaded.{Loaded}
+use Rattle.cfg_code.specs.Flat.{FlatScript}
 use Rattle.cfg_code.specs.declared.machine.Event.TheVariants.{Moved, Asked, Over, Stuck}
 use Rattle.cfg_code.specs.declared.machine.Wait.{Wait}
 use Rattle.cfg_code.specs.declared.machine.Wait.TheVariants as wait
@@ -26,12 +26,12 @@ Comes next (Err stop.Stuck) run = next.event ≡ Stuck
 Comes next (Err stop.NoMemory) run = Unit {0}
 
 -- a script whose patterns are these
-abbrev pub with_patterns : List (List ℕ) → Loaded → Loaded
+abbrev pub with_patterns : List (List ℕ) → FlatScript → FlatScript
 with_patterns patterns loaded = record loaded { patterns = patterns }
 
 -- A run that was advanced, and how it went on, are what its dialogue says, unless memory runs out: it asks what is to be
 -- asked, and waits for the answer; or it has ended as is said.
-abbrev pub IsWent : Loaded → RunTalk → Configuration → Went → Type 0
+abbrev pub IsWent : FlatScript → RunTalk → Configuration → Went → Type 0
 IsWent loaded talk run went.NoMemory = Unit {0}
 IsWent loaded (Asks ask next) run went.Asks = (asked_of loaded run ≡ ask) × Waits loaded run next
 IsWent loaded (Ends end) run went.Ended = (run.env ≡ end.env) × (run.wait ≡ wait.Over end.how)
@@ -50,7 +50,7 @@ how_ended (wait.Over h) = h
 how_ended w = how.Exit
 
 -- how a run goes on that is handed on is what its dialogue says, unless memory runs out
-abbrev pub IsNext : Loaded → RunTalk → RunNext → Type 0
+abbrev pub IsNext : FlatScript → RunTalk → RunNext → Type 0
 IsNext loaded talk NoMemory = Unit {0}
 IsNext loaded (Asks ask next) (RunAsks run asked) = (asked ≡ ask) × Waits loaded run next
 IsNext loaded (Ends end) (RunEnded env how) = record { env = env; how = how } ≡ end

@@ -25,6 +25,8 @@ pub enum VariableView<'a> {
     Host(&'a PvUse),
     /// A use of the table of this number, under this key.
     Item(TableUse, u32, &'a [u8]),
+    /// `$null`, where nothing is asked.
+    Null,
 }
 
 impl AskView<'_> {
@@ -32,7 +34,7 @@ impl AskView<'_> {
     pub(crate) fn nothing<'a>() -> AskView<'a>
         ensures { shown_ask result ≡ no_ask }
     {
-        AskView::Read(VariableView::Item(TableUse::Item, 0, b""))
+        AskView::Read(VariableView::Null)
     }
 
     /// A copy of the ask.
@@ -60,6 +62,7 @@ impl VariableView<'_> {
     {
         match self {
             VariableView::Host(variable) => variable.copy(alloc),
+            VariableView::Null => Ok(PvUse::Null),
             VariableView::Item(way, table, key) => {
                 let key = Key::of(Text::from_slice(alloc, key)?);
                 Ok(item(way, table, key))

@@ -1,11 +1,13 @@
 //! Runs.
 
-ghost use Rattle.std.specs.Prelude.{◌≡◌, ◌<◌, IsOkAnd, IfOk, ℕ, pos, [], slice_get};
+ghost use Rattle.std.specs.Prelude.{◌≡◌, ◌<◌, ◌-◌, IsOkAnd, IfOk, IsTrue, ℕ, pos, [], slice_get};
 ghost use Rattle.pv_values.specs.declared.run.HostAnswer.{HostAnswer};
 ghost use Rattle.pv_values.specs.declared.run.How.{How};
 ghost use Rattle.cfg_tree.specs.Meaning.{RunTalk, dialogue};
 ghost use Rattle.cfg_tree.specs.declared.script.Script.{Script};
-ghost use Rattle.cfg_code.specs.Machine.{asked_of, item_read, host_written, item_written, begun, told};
+ghost use Rattle.cfg_tree.specs.Closed.{closed_ask};
+ghost use Rattle.cfg_code.specs.Closed.{names_of};
+ghost use Rattle.cfg_code.specs.Machine.{asked_of, asked_by, item_read, host_written, item_written, begun, told};
 ghost use Rattle.cfg_code.specs.Follows.{Stands, Behaves, Waits};
 ghost use Rattle.script_vm.specs.Asking.{shown_ask};
 ghost use Rattle.script_vm.specs.Running.{IsWent, OnWent, IsNext, OnAsks, how_ended, with_patterns};
@@ -15,7 +17,7 @@ use crate::ask::{AskView, VariableView};
 use crate::operand::{answered_code, answered_value};
 use crate::stack::Stack;
 use crate::stop::Stop;
-use cfg_code::laws::the_code_means_the_script;
+use cfg_code::laws::{the_asks_of_closed_code_are_closed, the_code_means_the_script};
 use cfg_code::{Frame, Instr, Loaded, Wait};
 use cfg_tree::TableUse;
 use pv_values::{Env, HostAnswer, HostAsk, How, Matchers, PvUse, Val, Vals};
@@ -31,6 +33,15 @@ const MAX_STATEMENTS: u32 = 100000;
 /// `begin` makes one, and `restart` begins another block with it, in the room that it has. `advance`
 /// takes an answer, the first of which is `Start`, and says whether the run asks or has ended. `asked`
 /// shows the ask where it lies, until the answer comes; `close` takes the end out.
+///
+/// ```
+/// // request_route { if (!t_relay()) $var(a) = 5; }
+/// let mut run = Run::begin(alloc, &loaded, loaded.request, env)?;
+/// run.advance(alloc, &loaded, HostAnswer::Start, &mut matchers); // Asks
+/// run.asked(&loaded); // Call(TRelay, [])
+/// run.advance(alloc, &loaded, HostAnswer::Code(1), &mut matchers); // Ended
+/// run.close(alloc).1; // Normal
+/// ```
 #[derive(Debug, Drop)]
 pub struct Run {
     /// The place of the next instruction.
@@ -141,21 +152,13 @@ impl Run {
 
     /// What the run asks, where it lies.
     pub fn asked<'a>(&'a self, loaded: &'a Loaded) -> AskView<'a>
-        ensures { shown_ask result ≡ asked_of loaded.now self.now }
+        ensures shows { shown_ask result ≡ asked_of loaded.now self.now }
+        // Each table, pattern and block that the ask names is there.
+        ensures closed { IsTrue (closed_ask (names_of loaded.now) (shown_ask result)) }
     {
-        let instrs = loaded.code.instrs();
-        let at = self.pc.saturating_sub(1);
-        if at >= instrs.len() {
-            return AskView::nothing();
-        }
-        match &instrs[at] {
-            Instr::Read(x) => AskView::Read(VariableView::Host(x)),
-            Instr::ReadItem(way, table) => self.item_read(*way, *table),
-            Instr::Write(x) => self.host_written(x),
-            Instr::WriteItem(way, table) => self.item_written(*way, *table),
-            Instr::CallFunction(function) => AskView::Call(function, self.arguments.as_slice()),
-            _ => AskView::nothing(),
-        }
+        the_asks_of_closed_code_are_closed();
+        loaded.is_closed();
+        self.asked_in(loaded.code.instrs())
     }
 
     /// The variables and the end of a run that has ended. The run has no variables then.
@@ -208,6 +211,24 @@ impl Run {
         self.env = env;
         self.statements_left = MAX_STATEMENTS;
         self.wait = Wait::Start;
+    }
+
+    /// What the instruction before the run's place asks.
+    fn asked_in<'a>(&'a self, instrs: &'a [Instr]) -> AskView<'a>
+        ensures { shown_ask result ≡ asked_by (slice_get instrs.now (self.now.pc - 1)) self.now }
+    {
+        let at = self.pc.saturating_sub(1);
+        if at >= instrs.len() {
+            return AskView::nothing();
+        }
+        match &instrs[at] {
+            Instr::Read(x) => AskView::Read(VariableView::Host(x)),
+            Instr::ReadItem(way, table) => self.item_read(*way, *table),
+            Instr::Write(x) => self.host_written(x),
+            Instr::WriteItem(way, table) => self.item_written(*way, *table),
+            Instr::CallFunction(function) => AskView::Call(function, self.arguments.as_slice()),
+            _ => AskView::nothing(),
+        }
     }
 
     /// The ask to read an item, whose key is on top of the stack.

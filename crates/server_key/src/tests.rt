@@ -1,3 +1,4 @@
+//! Which keys are one, on a table, and copies of them.
 use super::{Key, KeyView};
 use std::test::Fail;
 

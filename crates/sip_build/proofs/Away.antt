@@ -23,10 +23,10 @@ use Rattle.sip_build.proofs.Spelt.{Spelt, spelt, fields_from, before_fields, beh
 use Rattle.sip_build.proofs.Twins.{AreTwins, twins_here, twins_append, places_append}
 
 -- the tree without the field, and with so many bytes of its body
-abbrev without_field : MessageTree → List FieldTree → List FieldTree → ℕ → MessageTree
+abbrev pub without_field : MessageTree → List FieldTree → List FieldTree → ℕ → MessageTree
 without_field t before after k = record { skipped = t.skipped; start = t.start; fields = before ++ after; body = take k t.body }
 
-all_but : (before : List FieldTree) (here : FieldTree) (after : List FieldTree) → AllByRecursion IsFieldTree (before ++ (here ∷ after)) → AllByRecursion IsFieldTree (before ++ after)
+pub all_but : (before : List FieldTree) (here : FieldTree) (after : List FieldTree) → AllByRecursion IsFieldTree (before ++ (here ∷ after)) → AllByRecursion IsFieldTree (before ++ after)
 all_but [] here after h = h.1
 all_but (t ∷ before) here after h = (h.0, all_but before here after h.1)
 
@@ -74,7 +74,7 @@ sizes t before here after e =
     ∙ length-append (fields before) (field here ++ fields after) ∙ ap (λ (n : ℕ). length (fields before) + n) (length-append (field here) (fields after))
 
 -- the relayed text is spelled by the tree without its first Via field
-left_is : (b : List ℕ) (m : Message) (f : HeaderSpan) (r : Reads b m) (s : Spelt b m) → f ≡ s.via → m.via.next ≡ None → first kind.Via m.head.fields.items ≡ Some f
+pub left_is : (b : List ℕ) (m : Message) (f : HeaderSpan) (r : Reads b m) (s : Spelt b m) → f ≡ s.via → m.via.next ≡ None → first kind.Via m.head.fields.items ≡ Some f
     → relayed_text b m [] ≡ message (without_field s.tree s.cut.before s.cut.after (m.end - m.head.body))
 left_is b m f r s same none is =
     let t = s.tree in

@@ -9,8 +9,8 @@ use Rattle.sip_msg.specs.declared.message.Message.{Message}
 use Rattle.sip_msg.specs.Fields.{first}
 use Rattle.outside_ports.specs.declared.port.Addr.{Addr}
 use Rattle.sip_build.specs.declared.joined.Joined.{Joined}
-use Rattle.sip_build.specs.declared.answers.Request.{Request}
-use Rattle.sip_build.specs.declared.answers.ToField.{ToField}
+use Rattle.sip_build.specs.declared.responses.Request.{Request}
+use Rattle.sip_build.specs.declared.responses.ToField.{ToField}
 use Rattle.sip_build.specs.Stamp.{stamp}
 use Rattle.sip_build.specs.Parts.{part, field_text, edited_vias, routes, uri_of}
 use Rattle.sip_build.specs.Reply.{reply_tag, reply_to_field}

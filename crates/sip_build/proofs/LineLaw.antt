@@ -11,7 +11,7 @@ use Rattle.sip_words.specs.Spans.{span}
 use Rattle.sip_fields.specs.declared.via.Via.{Via}
 use Rattle.sip_fields.specs.declared.via.Rport.{Rport}
 use Rattle.sip_fields.specs.declared.via.Rport.TheVariants.{Absent, Empty, Given}
-use Rattle.sip_words.specs.Grammar.{mark}
+use Rattle.sip_words.specs.Grammar.{separator}
 use Rattle.sip_words.proofs.Steps.{bind_some}
 use Rattle.sip_fields.specs.Parts.{Tail, Last, More, next_place}
 use Rattle.sip_fields.specs.Via.{via_at, IsRportBetween, IsViaBetween}
@@ -118,7 +118,7 @@ take_away b end s order high le =
 
 tail_behind : (end n : ℕ) (t : Tail) → next_place end t ≡ Some n → end ≤ n
 tail_behind end n (Last bs) e = absurd (cc)
-tail_behind end n (More m rest) e = let is : end + length (mark 44 m) ≡ n = same_Some _ n e in omega arith
+tail_behind end n (More m rest) e = let is : end + length (separator 44 m) ≡ n = same_Some _ n e in omega arith
 
 -- the next value stands behind the value
 pub next_behind : (text : List ℕ) (i n : ℕ) (v : Via) → i ≤ length text → via_at text i ≡ Some v → v.next ≡ Some n → v.whole.to ≤ n

@@ -10,7 +10,7 @@ use Rattle.sip_words.specs.declared.Span.{Span}
 use Rattle.sip_words.specs.Spans.{span}
 use Rattle.sip_words.specs.Words.{run_end, word_end, lws_end}
 use Rattle.sip_words.specs.Numbers.{number_at}
-use Rattle.sip_words.specs.Grammar.{lws, mark}
+use Rattle.sip_words.specs.Grammar.{lws, separator}
 use Rattle.sip_words.proofs.Steps.{bind_some}
 use Rattle.sip_words.proofs.Pieces.{behind, part_is}
 use Rattle.std.proofs.lemmas.List.{drop-drop}
@@ -61,7 +61,7 @@ NextAlike text (Some k) other (Some l) = Alike text k other l
 
 tail_alike : (text : List ℕ) (i : ℕ) (other : List ℕ) (j at to : ℕ) (w : List ℕ) (t : Tail) → Alike text i other j → drop i text ≡ w ++ tail t → at ≡ i + length w → to ≡ j + length w → NextAlike text (next_place at t) other (next_place to t)
 tail_alike text i other j at to w (Last bs) a h e f = tt
-tail_alike text i other j at to w (More m rest) a h e f = later text i other j (at + length (mark 44 m)) (to + length (mark 44 m)) (w ++ mark 44 m) rest a (h ∙ sym (append_assoc w (mark 44 m) rest)) (omega (arith, length-append w (mark 44 m))) (omega (arith, length-append w (mark 44 m)))
+tail_alike text i other j at to w (More m rest) a h e f = later text i other j (at + length (separator 44 m)) (to + length (separator 44 m)) (w ++ separator 44 m) rest a (h ∙ sym (append_assoc w (separator 44 m) rest)) (omega (arith, length-append w (separator 44 m))) (omega (arith, length-append w (separator 44 m)))
 
 four_front : (a b c d e t : List ℕ) → a ++ (b ++ (c ++ (d ++ (e ++ t)))) ≡ (a ++ (b ++ (c ++ (d ++ e)))) ++ t
 four_front a b c d e t = simp append_assoc

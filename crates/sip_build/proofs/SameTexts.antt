@@ -82,23 +82,32 @@ relayed_is b m edits cut h = same_edited (Cut cut ∷ edits) (without_top_via m 
 line_pieces : (a at b branch crlf : List ℕ) → (a ++ (at ++ b)) ++ (branch ++ crlf) ≡ a ++ (at ++ (b ++ (branch ++ crlf)))
 line_pieces a at b branch crlf = simp append_assoc
 
-line_is : (place : ℕ) (listen : Addr) (front branch : List ℕ) → front ≡ codes "Via: SIP/2.0/UDP " ++ (socket listen ++ codes ";branch=") → SameEdits (Insert place front ∷ Insert place branch ∷ Insert place (codes "\r\n") ∷ []) (Insert place (via_line listen branch) ∷ [])
-line_is place listen front branch e =
-    let three = in_three place front branch (codes "\r\n") in
-    let line = ap (λ (t : List ℕ). t ++ (branch ++ codes "\r\n")) e ∙ line_pieces (codes "Via: SIP/2.0/UDP ") (socket listen) (codes ";branch=") branch (codes "\r\n") in
-    subst (λ (t : List ℕ). SameEdits (Insert place front ∷ Insert place branch ∷ Insert place (codes "\r\n") ∷ []) (Insert place t ∷ [])) line three
+line_is : (place : ℕ) (listen : Addr) (front piece branch : List ℕ) → front ++ (piece ++ codes "\r\n") ≡ via_line listen branch → SameEdits (Insert place front ∷ Insert place piece ∷ Insert place (codes "\r\n") ∷ []) (Insert place (via_line listen branch) ∷ [])
+line_is place listen front piece branch e =
+    let three = in_three place front piece (codes "\r\n") in
+    subst (λ (t : List ℕ). SameEdits (Insert place front ∷ Insert place piece ∷ Insert place (codes "\r\n") ∷ []) (Insert place t ∷ [])) e three
+
+-- the front of the line, and the branch or what is left of it behind a mark
+pub line_by : (listen : Addr) (front branch : List ℕ) → front ≡ codes "Via: SIP/2.0/UDP " ++ (socket listen ++ (codes ";branch=" ++ [])) → front ++ (branch ++ codes "\r\n") ≡ via_line listen branch
+line_by listen front branch e = ap (λ (t : List ℕ). t ++ (branch ++ codes "\r\n")) e ∙ line_pieces (codes "Via: SIP/2.0/UDP ") (socket listen) (codes ";branch=") branch (codes "\r\n")
+
+mark_pieces : (a at b mark branch crlf : List ℕ) → (a ++ (at ++ (b ++ mark))) ++ (branch ++ crlf) ≡ a ++ (at ++ (b ++ ((mark ++ branch) ++ crlf)))
+mark_pieces a at b mark branch crlf = simp append_assoc
+
+pub line_by_mark : (listen : Addr) (front mark token : List ℕ) → front ≡ codes "Via: SIP/2.0/UDP " ++ (socket listen ++ (codes ";branch=" ++ mark)) → front ++ (token ++ codes "\r\n") ≡ via_line listen (mark ++ token)
+line_by_mark listen front mark token e = ap (λ (t : List ℕ). t ++ (token ++ codes "\r\n")) e ∙ mark_pieces (codes "Via: SIP/2.0/UDP ") (socket listen) (codes ";branch=") mark token (codes "\r\n")
 
 -- what a forwarded request becomes by the changes that are made for it
-pub forwarded_is : (b : List ℕ) (m : Message) (source : Addr) (edits : List Edit) (uri : List ℕ) (listen : Addr) (branch : List ℕ) (absent : ℕ) (s : Stamp) (h : Hops) (front : List ℕ) (made : List Edit)
+pub forwarded_is : (b : List ℕ) (m : Message) (source : Addr) (edits : List Edit) (uri : List ℕ) (listen : Addr) (branch : List ℕ) (absent : ℕ) (s : Stamp) (h : Hops) (front piece : List ℕ) (made : List Edit)
     → SameEdits (edits_of_stamp s) (stamp m.via source)
-    → front ≡ codes "Via: SIP/2.0/UDP " ++ (socket listen ++ codes ";branch=")
+    → front ++ (piece ++ codes "\r\n") ≡ via_line listen branch
     → SameEdits (edits_of_hops h) (with_hops b (first kind.MaxForwards m.head.fields.items) m.max_forwards m.head.body absent)
-    → made ≡ edits_of_stamp s ++ (replaced (uri_of m.start) uri ++ ((Insert (place_of (first kind.Via m.head.fields.items) (m.head.start.to + 2)) front ∷ Insert (place_of (first kind.Via m.head.fields.items) (m.head.start.to + 2)) branch ∷ Insert (place_of (first kind.Via m.head.fields.items) (m.head.start.to + 2)) (codes "\r\n") ∷ []) ++ edits_of_hops h))
+    → made ≡ edits_of_stamp s ++ (replaced (uri_of m.start) uri ++ ((Insert (place_of (first kind.Via m.head.fields.items) (m.head.start.to + 2)) front ∷ Insert (place_of (first kind.Via m.head.fields.items) (m.head.start.to + 2)) piece ∷ Insert (place_of (first kind.Via m.head.fields.items) (m.head.start.to + 2)) (codes "\r\n") ∷ []) ++ edits_of_hops h))
     → edited (take m.end b) (made ++ edits) ≡ forwarded_text b m source edits uri listen branch absent
 unfolding forwarding forwarded_text
-forwarded_is b m source edits uri listen branch absent s h front made hs hf hh e =
+forwarded_is b m source edits uri listen branch absent s h front piece made hs hf hh e =
     let place = place_of (first kind.Via m.head.fields.items) (m.head.start.to + 2) in
-    let lines = together (line_is place listen front branch hf) hh in
+    let lines = together (line_is place listen front piece branch hf) hh in
     let back = together (same (replaced (uri_of m.start) uri)) lines in
     let whole = together (together hs back) (same edits) in
     rw e (same_edited _ (forwarding b m source uri listen branch absent ++ edits) whole (take m.end b))

@@ -1,4 +1,4 @@
--- The requests that the proxy makes for a request that it sent: ACK for an answer other than 2xx (RFC 3261, section 17.1.1.3), and CANCEL (section 9.1).
+-- The requests that the proxy makes for a request that it sent: ACK for a response other than 2xx (RFC 3261, section 17.1.1.3), and CANCEL (section 9.1).
 use Rattle.std.specs.Prelude.{ℕ, List, ◌++◌, codes}
 use Rattle.std.specs.Fmt.{decimal}
 use Rattle.sip_scan.specs.declared.field.Kind.TheVariants as kind
@@ -19,7 +19,7 @@ hop_request method b m to =
     ++ (codes "CSeq: " ++ (decimal m.cseq.number ++ (codes " " ++ (method ++ (codes "\r\n"
     ++ codes "Content-Length: 0\r\n\r\n"))))))))))))))))
 
--- To is that of the answer
+-- To is that of the response
 unfoldable pub ack_text : List ℕ → Message → List ℕ → Message → List ℕ
 ack_text b m answer am = hop_request (codes "ACK") b m (field_text answer (first kind.To am.head.fields.items))
 

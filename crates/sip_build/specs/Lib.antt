@@ -3,6 +3,7 @@ pub mod Stamp
 pub mod Parts
 pub mod Reply
 pub mod Forwarded
+pub mod Stateless
 pub mod Relayed
 pub mod Hop
 pub mod WithField

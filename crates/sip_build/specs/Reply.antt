@@ -1,4 +1,4 @@
--- The answer that the proxy makes to a request (RFC 3261, section 8.2.6), and to a malformed one.
+-- The response that the proxy makes to a request (RFC 3261, section 8.2.6), and to a malformed one.
 use Rattle.std.specs.Prelude.{ℕ, ◌==◌, Bool, not, List, [], ◌++◌, drop, Option, Some, None, is_none, if◌then◌else◌, codes, slice_range, nat_eq}
 use Rattle.std.specs.List.{starts_with}
 use Rattle.std.specs.Fmt.{decimal}

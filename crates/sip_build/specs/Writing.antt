@@ -14,8 +14,8 @@ use Rattle.sip_fields.specs.declared.name_addr.NameAddr.{NameAddr}
 use Rattle.sip_msg.specs.Fields.{is_of, first}
 use Rattle.outside_ports.specs.declared.port.Addr.{Addr}
 use Rattle.sip_build.specs.declared.forwarding.Hops.{Hops}
-use Rattle.sip_build.specs.declared.answers.Request.{Request}
-use Rattle.sip_build.specs.declared.answers.ToField.{ToField}
+use Rattle.sip_build.specs.declared.responses.Request.{Request}
+use Rattle.sip_build.specs.declared.responses.ToField.{ToField}
 use Rattle.sip_build.specs.declared.joined.Joined.{Joined}
 use Rattle.sip_build.specs.declared.joined.Taken.{Taken}
 use Rattle.sip_build.specs.declared.joined.Taken.TheVariants.{Vias, Routes}
@@ -60,13 +60,13 @@ FieldsLie b fields = All (FieldLies b) fields
 abbrev pub EndsIn : NameAddr → HeaderSpan → Type 0
 EndsIn n f = (f.whole.from ≤ n.whole.to) × (n.whole.to ≤ f.whole.to)
 
--- the parts of a request that is answered
+-- the parts of a request that a response is made to
 pub record RequestLies (r : Request) : Type 0 where
   pub fields : FieldsLie r.b.now r.fields.now
   pub to : IfSome r.to (λ n. IfSome (first kind.To r.fields.now) (EndsIn n))
   pub branch : IfSome r.via.now.branch (IsWithin r.b.now)
 
--- its answer
+-- its response
 unfoldable pub answer_to : Request → Addr → ℕ → List ℕ → List ℕ
 answer_to r source code reason = answer r.b.now r.fields.now r.via.now r.to source code reason
 

@@ -9,7 +9,7 @@ ghost use Rattle.sip_build.specs.WithField.{ends_before_empty, empty_line, with_
 
 use msg_edits::TooLong;
 use sip_msg::Span;
-use sip_words::words::stands;
+use sip_words::stands;
 
 /// Puts the bytes of `b` at `field` before the first empty line of the first `len` bytes of `out`, behind their
 /// leading CR and LF, and says how long the text is then. A text without an empty line stays as it is. Where the text

@@ -8,8 +8,8 @@ ghost use Rattle.sip_build.specs.Addresses.{reply_address};
 use arrayvec::ArrayString;
 use itoa::Buffer;
 use outside_ports::Addr;
-use sip_fields::Rport;
-use sip_msg::Message;
+use sip_fields::{Rport, Via};
+use sip_msg::{Basis, Message};
 
 /// The port of SIP, where a Via names none (RFC 3261, section 18.2.2).
 const SIP_PORT: u16 = 5060;
@@ -17,13 +17,28 @@ const SIP_PORT: u16 = 5060;
 /// Where a reply to the request `m` goes, which came from `from`: the source address, with the source port where
 /// the top Via's rport stood without a value (RFC 3581, section 4), and else with the Via's port or 5060 (RFC 3261,
 /// section 18.2.2).
-#[tactic(auto, unfolding(crate::specs::Addresses::reply_address))]
 pub fn reply_to(m: &Message, from: Addr) -> Addr
     ensures { result ≡ reply_address m.now.via from }
 {
-    let port = match m.via.rport {
+    address_behind(&m.via, from)
+}
+
+/// Where a response to the malformed request goes that has this basis and came from `from`: by its top Via value, as for
+/// any other request.
+pub fn basis_reply_to(basis: &Basis, from: Addr) -> Addr
+    ensures { result ≡ reply_address basis.now.via from }
+{
+    address_behind(&basis.via, from)
+}
+
+/// Where a response goes by this Via value, to a request that came from `from`.
+#[tactic(auto, unfolding(crate::specs::Addresses::reply_address))]
+fn address_behind(via: &Via, from: Addr) -> Addr
+    ensures { result ≡ reply_address via.now from }
+{
+    let port = match via.rport {
         Rport::Empty(_) => from.port,
-        Rport::Given(_) | Rport::Absent => m.via.port.unwrap_or(SIP_PORT),
+        Rport::Given(_) | Rport::Absent => via.port.unwrap_or(SIP_PORT),
     };
     Addr { ip: from.ip, port }
 }

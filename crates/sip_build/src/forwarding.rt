@@ -1,5 +1,5 @@
 //! The request that goes on (RFC 3261, section 16.6).
-ghost use Rattle.std.specs.Prelude.{◌≡◌, ◌≤◌, ◌<◌, ◌+◌, ◌-◌, [], ◌∷◌, ◌++◌, codes, length, map, take, IfSome};
+ghost use Rattle.std.specs.Prelude.{◌≡◌, ◌≤◌, ◌<◌, ◌+◌, ◌-◌, [], ◌∷◌, ◌++◌, ℕ, List, codes, length, map, take, IfSome};
 ghost use Rattle.std.specs.Fmt.{decimal};
 ghost use Rattle.sip_words.specs.Spans.{IsWithin};
 ghost use Rattle.sip_scan.specs.declared.field.Kind.TheVariants as kind;
@@ -9,26 +9,27 @@ ghost use Rattle.sip_msg.specs.Fields.{first};
 ghost use Rattle.sip_msg.specs.Table.{Reads};
 ghost use Rattle.numerals.specs.Numerals.{socket};
 ghost use Rattle.sip_build.specs.Parts.{place_of};
-ghost use Rattle.sip_build.specs.Forwarded.{number_in, one_less, with_hops, forwarded_text};
+ghost use Rattle.outside_ports.specs.declared.port.Addr.{Addr as Address};
+ghost use Rattle.sip_build.specs.Forwarded.{number_in, one_less, via_line, with_hops, forwarded_text};
+ghost use Rattle.sip_build.specs.Stateless.{token_of, stateless_ack_text};
 ghost use Rattle.msg_edits.specs.Writing.{IsWritten, SameEdits};
 ghost use Rattle.sip_build.specs.Writing.{FieldsLie, edits_of_hops};
 
 use crate::addresses::{push_ip, push_number, push_octet};
 use crate::fields::{first, uri_of};
+use crate::responses::without_cookie;
 use crate::stamp::Stamp;
 use arrayvec::ArrayString;
 use msg_edits::{Change, Edit, TooLong, apply_after};
 use outside_ports::Addr;
 use sip_msg::{Message, Span};
 use sip_scan::Kind;
-use sip_words::Class;
-use sip_words::words::{lws_end, run_end};
+use sip_words::{Class, lws_end, run_end};
 
 /// Writes the request `m`, which came from `from`, as it goes on. In this order it is stamped; its URI is replaced by
 /// `uri`; a line Via with the address `listen` and the branch `branch` is put before its first Via field; the number
 /// of Max-Forwards is lowered by one, or a field Max-Forwards with `absent_hops` is put before the empty line where it
 /// has none; and the edits are made. Bytes behind the end of the message are left out.
-#[tactic(auto, using(crate::proofs::Readings::fields_lie, crate::proofs::Readings::end_within, crate::proofs::Readings::line_low, crate::proofs::Readings::body_low))]
 pub fn forwarded(
     b: &[u8],
     m: &Message,
@@ -44,8 +45,82 @@ pub fn forwarded(
     requires hops { IfSome m.now.max_forwards (λ hops. 0 < hops) }
     ensures { IsWritten (forwarded_text b.now m.now from edits.now uri.now listen branch.now absent_hops) out.old out.new result }
 {
+    let via = via_front(listen, "");
+    forward(
+        b,
+        m,
+        from,
+        edits,
+        uri,
+        via.as_str().as_bytes(),
+        branch,
+        absent_hops,
+        out,
+    )
+}
+
+/// Writes the ACK `m`, which came from `from` and for which there is no transaction, as it goes on: a forwarded request
+/// whose branch is `z9hG4bKsl.` and the branch of the top Via value without its cookie.
+#[tactic(auto, using(crate::proofs::Readings::branch_within))]
+pub fn stateless_ack(
+    b: &[u8],
+    m: &Message,
+    from: Addr,
+    edits: &[Edit],
+    uri: &[u8],
+    listen: Addr,
+    absent_hops: u8,
+    out: &mut [u8],
+) -> Result<usize, TooLong>
+    requires reading { Reads b.now m.now }
+    requires hops { IfSome m.now.max_forwards (λ hops. 0 < hops) }
+    ensures { IsWritten (stateless_ack_text b.now m.now from edits.now uri.now listen absent_hops) out.old out.new result }
+{
+    let via = via_front(listen, "z9hG4bKsl.");
+    let token = token_of(b, m.via.branch);
+    forward(
+        b,
+        m,
+        from,
+        edits,
+        uri,
+        via.as_str().as_bytes(),
+        token,
+        absent_hops,
+        out,
+    )
+}
+
+/// A branch without its cookie, or no byte where there is none.
+fn token_of(b: &[u8], branch: Option<Span>) -> &[u8]
+    requires { IfSome branch (IsWithin b.now) }
+    ensures { result.now ≡ token_of b.now branch }
+{
+    match branch {
+        Some(branch) => without_cookie(&b[branch.from..branch.to]),
+        None => &[],
+    }
+}
+
+/// Writes the request as it goes on, with a line Via of two pieces and a CRLF.
+#[tactic(auto, using(crate::proofs::Readings::fields_lie, crate::proofs::Readings::end_within, crate::proofs::Readings::line_low, crate::proofs::Readings::body_low))]
+fn forward<'a>(
+    b: &[u8],
+    m: &Message,
+    from: Addr,
+    edits: &[Edit],
+    uri: &'a [u8],
+    front: &'a [u8],
+    branch: &'a [u8],
+    absent_hops: u8,
+    out: &mut [u8],
+) -> Result<usize, TooLong>
+    requires reading { Reads b.now m.now }
+    requires hops { IfSome m.now.max_forwards (λ hops. 0 < hops) }
+    ensures { (listen : Address) (whole : List ℕ) → front.now ++ (branch.now ++ codes "\r\n") ≡ via_line listen whole
+        → IsWritten (forwarded_text b.now m.now from edits.now uri.now listen whole absent_hops) out.old out.new result }
+{
     let stamp = Stamp::of(&m.via, from);
-    let via = via_front(listen);
     let hops = Hops::of(b, m, absent_hops);
     let uri_at = uri_of(m.start);
     let place = via_place(b, m);
@@ -55,7 +130,7 @@ pub fn forwarded(
         stamp.address(),
         Change::Cut(uri_at),
         insert(uri_at.from, uri),
-        insert(place, via.as_str().as_bytes()),
+        insert(place, front),
         insert(place, branch),
         insert(place, b"\r\n"),
         Change::Cut(hops.at),
@@ -83,9 +158,10 @@ fn via_place(b: &[u8], m: &Message) -> usize
     }
 }
 
-/// The line Via up to the branch.
-fn via_front(listen: Addr) -> ArrayString<46>
-    ensures { result.bytes ≡ codes "Via: SIP/2.0/UDP " ++ (socket listen ++ codes ";branch=") }
+/// The line Via up to the branch, and the mark with which the branch begins.
+fn via_front(listen: Addr, mark: &str) -> ArrayString<56>
+    requires { length mark.now ≤ 10 }
+    ensures { result.bytes ≡ codes "Via: SIP/2.0/UDP " ++ (socket listen ++ (codes ";branch=" ++ mark.now)) }
 {
     let mut text = ArrayString::new();
     text.push_str("Via: SIP/2.0/UDP ");
@@ -93,6 +169,7 @@ fn via_front(listen: Addr) -> ArrayString<46>
     text.push_str(":");
     push_number(&mut text, listen.port);
     text.push_str(";branch=");
+    text.push_str(mark);
     text
 }
 

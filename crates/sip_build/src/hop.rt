@@ -16,8 +16,8 @@ use sip_scan::Kind;
 /// No change.
 const UNCHANGED: Change<'static> = Change::Cut(Span { from: 0, to: 0 });
 
-/// Writes the ACK for the answer `am` to the request `m`, which the proxy sent (RFC 3261, section 17.1.1.3): its URI,
-/// its top Via value, its Route fields, its From and Call-ID, the number of its CSeq, and To of the answer.
+/// Writes the ACK for the response `am` to the request `m`, which the proxy sent (RFC 3261, section 17.1.1.3): its URI,
+/// its top Via value, its Route fields, its From and Call-ID, the number of its CSeq, and To of the response.
 #[tactic(auto, unfolding(crate::specs::Hop::ack_text), using(crate::proofs::Readings::fields_lie))]
 pub fn ack(
     b: &[u8],

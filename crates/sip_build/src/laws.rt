@@ -23,7 +23,7 @@ ghost use Rattle.sip_build.specs.Forwarded.{via_line, forwarded_text};
 ghost use Rattle.sip_build.specs.Relayed.{relayed_text};
 ghost use Rattle.sip_build.specs.Laws.{IsOwn, own_value, own_via, other_edits, before_place, from_place, ReadsUnder, HasAllBut};
 
-/// A reply goes to the address that its request came from. Its port is the source port where rport stands without a
+/// A response goes to the address that its request came from. Its port is the source port where rport stands without a
 /// value (RFC 3581, section 4), and else that of the top Via value, or 5060 where it names none (RFC 3261,
 /// section 18.2.2).
 pub fn a_reply_goes_back()
@@ -53,7 +53,7 @@ pub fn the_line_via_is_put_in()
         × (edited text others ≡ before_place text others place ++ from_place text others place) }
 {}
 
-/// Without edits of the script a relayed reply is the response with the bytes of its top Via value taken away: what
+/// Without edits of the script a relayed response is the response with the bytes of its top Via value taken away: what
 /// stands before them, and what stands behind the whole field, or from the second value on.
 pub fn the_top_via_is_taken_away()
     ensures only { (b : List ℕ) (m : Incoming) (field : Field) → Reads b m → m.via.next ≡ None → first kind.Via m.head.fields.items ≡ Some field
@@ -86,7 +86,7 @@ pub fn what_is_forwarded_reads()
         → (under : Incoming) × ReadsUnder (edited text others) t (forwarded_text b m source edits uri listen branch absent) (length front) listen branch under }
 {}
 
-/// A relayed reply, without edits of the script, has the Via below: where the top value has another behind it in its field,
+/// A relayed response, without edits of the script, has the Via below: where the top value has another behind it in its field,
 /// that one reads in its place, as the same value, each part at its place there.
 pub fn the_value_below_reads()
     ensures { (b : List ℕ) (m : Incoming) (field : Field) (next : ℕ) (via : ViaValue) → Reads b m → first kind.Via m.head.fields.items ≡ Some field
@@ -95,7 +95,7 @@ pub fn the_value_below_reads()
         × (via_at (take (m.via.whole.from + (field.value.to - next)) (relayed_text b m [])) m.via.whole.from ≡ Some (via_place m.via.whole.from t)) }
 {}
 
-/// A relayed reply, without edits of the script, has the Via below: where the top value is alone in its field, the reply's
+/// A relayed response, without edits of the script, has the Via below: where the top value is alone in its field, the reply's
 /// head reads, and its fields are those of the response without that field, with the same bytes, in order. So its first Via
 /// field is the response's second one.
 pub fn the_fields_below_stand()

@@ -5,8 +5,10 @@
 //! bytes. A call writes it to the front of the caller's room, and says how long it is. Where it doesn't fit, the
 //! room stays as it was, and [`TooLong`] tells how long the text would be. Nothing here takes memory.
 //!
-//! - [`reply`] and [`basis_reply`] write the answers that the proxy makes, and [`reply_to`] says where they go.
-//! - [`forwarded`] writes the request that goes on, [`relayed_reply`] the reply that goes back.
+//! - [`reply`] and [`basis_reply`] write the responses that the proxy makes; [`reply_to`] and [`basis_reply_to`] say where
+//!   they go.
+//! - [`forwarded`] writes the request that goes on, [`stateless_ack`] an ACK that goes on without a transaction, and
+//!   [`relayed_reply`] the response that goes back.
 //! - [`append_field`] puts a field into a written text.
 //! - [`ack`] and [`cancel`] write the requests that the proxy makes for a request that it sent.
 //! - [`laws`] has what the layers above use: where a reply goes, that a request reads under the proxy's line Via, and
@@ -15,21 +17,21 @@
 
 mod adding;
 mod addresses;
-mod answers;
 mod fields;
 mod forwarding;
 mod hop;
 mod joined;
 pub mod laws;
 mod relaying;
+mod responses;
 mod stamp;
 #[cfg(test)]
 mod tests;
 
 pub use adding::append_field;
-pub use addresses::reply_to;
-pub use answers::{basis_reply, reply};
-pub use forwarding::forwarded;
+pub use addresses::{basis_reply_to, reply_to};
+pub use forwarding::{forwarded, stateless_ack};
 pub use hop::{ack, cancel};
 pub use msg_edits::TooLong;
 pub use relaying::relayed_reply;
+pub use responses::{basis_reply, reply};

@@ -1,7 +1,8 @@
 //! Texts worked out by hand from the RFCs.
 use crate::fields::{field_text, first};
 use crate::{
-    TooLong, ack, append_field, basis_reply, cancel, forwarded, relayed_reply, reply, reply_to,
+    TooLong, ack, append_field, basis_reply, basis_reply_to, cancel, forwarded, relayed_reply,
+    reply, reply_to, stateless_ack,
 };
 use msg_edits::{Edit, Edits};
 use outside_ports::Addr;
@@ -188,6 +189,70 @@ fn reply_addresses(rt: HostRuntime) {
         b"OPTIONS sip:a@h SIP/2.0\r\nVia: SIP/2.0/UDP h;branch=z9hG4bKx\r\nFrom: <sip:u@h>\r\nTo: <sip:a@h>\r\nCall-ID: c\r\nCSeq: 7 OPTIONS\r\n\r\n",
         5060,
     );
+}
+
+/// Where the response to the malformed `request` from 192.0.2.1:6000 goes.
+fn basis_goes_to(rt: &impl Abort, shows: &str, request: &'static [u8], port: u16) {
+    match read_basis(request) {
+        Some(basis) => assert!(rt;
+            basis_reply_to(&basis, caller(6000)) == caller(port),
+            "{shows}"
+        ),
+        None => assert!(rt; false, "{shows}"),
+    }
+}
+
+#[test]
+fn basis_reply_addresses(rt: HostRuntime) {
+    basis_goes_to(
+        &rt,
+        "rport without a value",
+        b"OPTIONS sip:a@h SIP/3.0\r\nVia: SIP/2.0/UDP h:7;rport\r\n\r\n",
+        6000,
+    );
+    basis_goes_to(
+        &rt,
+        "the port of the Via value",
+        b"OPTIONS sip:a@h SIP/3.0\r\nVia: SIP/2.0/UDP h:7\r\n\r\n",
+        7,
+    );
+    basis_goes_to(
+        &rt,
+        "no rport and no port",
+        b"OPTIONS sip:a@h SIP/3.0\r\nVia: SIP/2.0/UDP h\r\n\r\n",
+        5060,
+    );
+}
+
+/// An ACK that goes on without a transaction.
+#[test]
+fn stateless_acks(rt: HostRuntime) {
+    let request =
+        b"ACK sip:b@192.0.2.9 SIP/2.0\r\nVia: SIP/2.0/UDP 192.0.2.1;branch=z9hG4bK6\r\nMax-Forwards: 70\r\nFrom: <sip:u@192.0.2.1>;tag=f\r\nTo: <sip:b@192.0.2.9>;tag=t\r\nCall-ID: 6\r\nCSeq: 1 ACK\r\nContent-Length: 0\r\n\r\n";
+    match Message::read(request) {
+        Ok(m) => {
+            assert!(rt; m.max_forwards != Some(0));
+            let mut room = [0; 512];
+            let result = stateless_ack(
+                request,
+                &m,
+                caller(5060),
+                &[],
+                b"sip:b@192.0.2.9",
+                PROXY,
+                70,
+                &mut room,
+            );
+            wrote(
+                &rt,
+                "its branch is that of the request, under another mark",
+                &room,
+                result,
+                b"ACK sip:b@192.0.2.9 SIP/2.0\r\nVia: SIP/2.0/UDP 127.0.0.1:5060;branch=z9hG4bKsl.6\r\nVia: SIP/2.0/UDP 192.0.2.1;branch=z9hG4bK6\r\nMax-Forwards: 69\r\nFrom: <sip:u@192.0.2.1>;tag=f\r\nTo: <sip:b@192.0.2.9>;tag=t\r\nCall-ID: 6\r\nCSeq: 1 ACK\r\nContent-Length: 0\r\n\r\n",
+            );
+        }
+        Err(_) => assert!(rt; false),
+    }
 }
 
 /// An INVITE of 192.0.2.1:5060.

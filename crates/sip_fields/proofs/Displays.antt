@@ -6,7 +6,7 @@ use Rattle.std.proofs.lemmas.Bool.{cases_Bool, both_ways}
 use Rattle.std.proofs.lemmas.List.{append-nil}
 use Rattle.std.proofs.lemmas.Option.{cond_some, same_Some, none-some}
 use Rattle.sip_words.specs.declared.bytes.Class.TheVariants as class
-use Rattle.sip_words.specs.declared.marks.Setting.TheVariants.{Field}
+use Rattle.sip_words.specs.declared.separators.Surroundings.TheVariants.{Field}
 use Rattle.sip_words.specs.Bytes.{has}
 use Rattle.sip_words.specs.Words.{word_end, blank_len, lws_end, quoted_end, stands}
 use Rattle.sip_words.specs.Many.{Repeats, many}

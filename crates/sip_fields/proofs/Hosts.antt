@@ -17,7 +17,8 @@ use Rattle.sip_words.proofs.Pieces.{behind, Ends, word_again, number_again, part
 use Rattle.sip_words.proofs.Takes.{Takes, then, word_takes, number_takes, stands_takes}
 use Rattle.sip_fields.specs.declared.host.Host.{Host}
 use Rattle.sip_fields.specs.declared.host.Host.TheVariants.{Name}
-use Rattle.sip_fields.specs.Host.{octet_at, dot_end, v4_at, host_from, host_of, host_at}
+use Rattle.sip_words.specs.Addresses.{octet_at, dot_end, v4_at}
+use Rattle.sip_fields.specs.Host.{host_from, host_of, host_at}
 use Rattle.sip_fields.specs.Parts.{HostTree, Numbers, Named, host, IsOctet, AreOctets, IsHost, host_value}
 
 octet_again : (text : List ℕ) (i : ℕ) (w rest : List ℕ) → drop i text ≡ w ++ rest → IsOctet w → Ends class.Digit rest → octet_at text i ≡ Some (digits_value 10 w, i + length w)

@@ -5,8 +5,8 @@ use Rattle.std.proofs.lemmas.Option.{same_Some, IfSome_then}
 use Rattle.sip_words.specs.declared.Span.{Span}
 use Rattle.sip_words.specs.declared.params.Param.{Param}
 use Rattle.sip_words.specs.Spans.{span, IsBetween, HasParts}
-use Rattle.sip_words.specs.Grammar.{lws, mark, ParamTree, params, named_place}
-use Rattle.sip_words.proofs.Lies.{ends_text, wider_span, wider_parts, mark_length, named_lies}
+use Rattle.sip_words.specs.Grammar.{lws, separator, ParamTree, params, named_place}
+use Rattle.sip_words.proofs.Lies.{ends_text, wider_span, wider_parts, separator_length, named_lies}
 use Rattle.sip_fields.specs.declared.via.Via.{Via}
 use Rattle.sip_fields.specs.declared.name_addr.NameAddr.{NameAddr}
 use Rattle.sip_fields.specs.declared.cseq.CSeq.{CSeq}
@@ -49,7 +49,7 @@ received_lies i j (Some p) lie = by_value p.value
 
 next_lies : (i j end : ℕ) (t : Tail) → i ≤ end → end + length (tail t) ≤ j → IfSome (next_place end t) (λ n. (i < n) × (n ≤ j))
 next_lies i j end (Last bs) low high = tt
-next_lies i j end (More m rest) low high = let len = mark_length 44 m in let whole = length-append (mark 44 m) rest in (omega (arith, low, len), omega (arith, high, whole))
+next_lies i j end (More m rest) low high = let len = separator_length 44 m in let whole = length-append (separator 44 m) rest in (omega (arith, low, len), omega (arith, high, whole))
 
 -- lengths of texts that stand one behind the other
 three : (a b c : List ℕ) → length (a ++ (b ++ c)) ≡ length a + length b + length c

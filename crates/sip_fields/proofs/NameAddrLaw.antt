@@ -2,7 +2,7 @@
 use Rattle.std.proofs.Common.{◌≡◌, ℕ, ◌+◌, ◌≤◌, List, ◌++◌, length, drop, refl, subst, sym, ap, ◌∙◌, Option, Some, None}
 use Rattle.std.specs.Prelude.{codes}
 use Rattle.sip_words.specs.declared.Span.{Span}
-use Rattle.sip_words.specs.declared.marks.Setting.TheVariants.{Field}
+use Rattle.sip_words.specs.declared.separators.Surroundings.TheVariants.{Field}
 use Rattle.sip_words.specs.declared.params.Param.{Param}
 use Rattle.sip_words.specs.Words.{lws_end}
 use Rattle.sip_words.specs.Params.{params_at}
@@ -16,7 +16,7 @@ use Rattle.sip_fields.specs.Tail.{next_at}
 use Rattle.sip_fields.specs.NameAddr.{any_uri, route_uri, tag_of, rest_at, name_addr_at, route_at}
 use Rattle.sip_fields.specs.Parts.{tail, value_of_param}
 use Rattle.sip_fields.specs.NameAddrGrammar.{AddressTree, address, IsAddress, address_place, IsRouteAddress, NameAddrTree, name_addr, IsNameAddr, name_addr_place, IsRoute}
-use Rattle.sip_fields.proofs.Ports.{no_mark_here, tail_without, stops_tail, next_again, next_takes}
+use Rattle.sip_fields.proofs.Ports.{no_separator_here, tail_without, stops_tail, next_again, next_takes}
 use Rattle.sip_fields.proofs.Addresses.{address_again, address_solid, address_takes, route_again, route_takes}
 
 tag_is : (o : Option Param) → tag_of o ≡ value_of_param o
@@ -30,7 +30,7 @@ rest_again text i t le h is =
     let at_1 = behind text i (lws t.lead) _ h in
     let at_2 = behind text _ (address t.address) _ at_1 in
     let at_3 = behind text _ (params t.params) _ at_2 in
-    let none = no_mark_here Field 59 text _ (tail t.tail) at_3 (tail_without 59 t.tail refl) in
+    let none = no_separator_here Field 59 text _ (tail t.tail) at_3 (tail_without 59 t.tail refl) in
     let params_is = params_again Field text _ t.params (tail t.tail) at_2 is.params (stops_tail t.tail) none in
     let tag_name = named_is (codes "tag") text _ t.params _ at_2 in
     let tag = tag_is (named_place (codes "tag") (i + length (lws t.lead) + length (address t.address)) t.params) in

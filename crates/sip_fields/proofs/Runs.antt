@@ -5,7 +5,7 @@ use Rattle.std.specs.List.{prefix_len}
 use Rattle.std.proofs.lemmas.Bool.{cases_Bool, lt-ltb, le-ltb}
 use Rattle.std.proofs.lemmas.List.{drop-drop, append-nil}
 use Rattle.sip_words.specs.declared.bytes.Class.{Class}
-use Rattle.sip_words.specs.declared.marks.Setting.TheVariants.{Field}
+use Rattle.sip_words.specs.declared.separators.Surroundings.TheVariants.{Field}
 use Rattle.sip_words.specs.Bytes.{has}
 use Rattle.sip_words.specs.Words.{run_end, word_end, blank_len, lws_end}
 use Rattle.sip_words.specs.Grammar.{Blank, Space, Tab, FoldSpace, FoldTab, lws}

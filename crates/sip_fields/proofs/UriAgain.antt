@@ -6,7 +6,7 @@ use Rattle.std.proofs.lemmas.Bool.{cases_Bool, eq-eqb, ne_eqb}
 use Rattle.std.proofs.lemmas.List.{append-nil}
 use Rattle.sip_words.specs.declared.bytes.Class as class_type
 use Rattle.sip_words.specs.declared.bytes.Class.TheVariants as class
-use Rattle.sip_words.specs.declared.marks.Setting.TheVariants.{Uri}
+use Rattle.sip_words.specs.declared.separators.Surroundings.TheVariants.{Uri}
 use Rattle.sip_words.specs.Bytes.{◌or◌, has}
 use Rattle.sip_words.specs.Spans.{span}
 use Rattle.sip_words.specs.Words.{stands}
@@ -21,7 +21,7 @@ use Rattle.sip_fields.specs.Parts.{host, host_value, port, port_value}
 use Rattle.sip_fields.specs.UriGrammar.{AreAll, LoginTree, password, login, IsLogin, headers, SipTree, behind_login, IsSip, UriTree, SipUri, OtherUri, uri, IsUri, user_place, uri_place}
 use Rattle.sip_fields.proofs.Runs.{nothing_solid, at_length}
 use Rattle.sip_fields.proofs.Hosts.{host_again}
-use Rattle.sip_fields.proofs.Ports.{Without, no_mark_here, params_without, port_ends, port_again}
+use Rattle.sip_fields.proofs.Ports.{Without, no_separator_here, params_without, port_ends, port_again}
 use Rattle.sip_fields.proofs.Schemes.{scheme_again}
 
 -- a byte of a class that has no @ stands before one
@@ -134,7 +134,7 @@ sip_again s text i t le h is =
     let port_is = port_again Uri text _ t.port rest at_2 is.port (params_without Uri 58 t.params (headers t.headers) is.params refl (headers_without 58 t.headers refl)) stops in
     let at_3 = behind text _ (port t.port) _ at_2 in
     let at_4 = behind text _ (params t.params) _ at_3 in
-    let none = no_mark_here Uri 59 text _ (headers t.headers) at_4 (headers_without 59 t.headers refl) in
+    let none = no_separator_here Uri 59 text _ (headers t.headers) at_4 (headers_without 59 t.headers refl) in
     let params_is = params_again Uri text _ t.params (headers t.headers) at_3 is.params (stops_headers t.headers) none in
     let in_1 = within text i (login t.login) _ le h in
     let in_2 = within text _ (host t.host) _ in_1 at_1 in

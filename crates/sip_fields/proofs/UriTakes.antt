@@ -6,7 +6,7 @@ use Rattle.std.proofs.lemmas.List.{append-nil, drop_all}
 use Rattle.std.proofs.lemmas.Option.{cond_some, same_Some}
 use Rattle.sip_words.specs.declared.Span.{Span}
 use Rattle.sip_words.specs.declared.bytes.Class.TheVariants as class
-use Rattle.sip_words.specs.declared.marks.Setting.TheVariants.{Uri}
+use Rattle.sip_words.specs.declared.separators.Surroundings.TheVariants.{Uri}
 use Rattle.sip_words.specs.Bytes.{◌or◌, has}
 use Rattle.sip_words.specs.Words.{run_end, word_end, stands}
 use Rattle.sip_words.specs.Params.{params_at}

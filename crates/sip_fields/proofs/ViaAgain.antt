@@ -4,17 +4,17 @@ use Rattle.std.specs.Prelude.{codes, ◌⊎◌, IfSome}
 use Rattle.std.specs.Str.{str_eq_ignore_ascii_case}
 use Rattle.std.proofs.lemmas.Bool.{ne_eqb, cases_eq, both_ways, cases_Bool}
 use Rattle.sip_words.specs.declared.bytes.Class.TheVariants as class
-use Rattle.sip_words.specs.declared.marks.Setting.TheVariants.{Field}
+use Rattle.sip_words.specs.declared.separators.Surroundings.TheVariants.{Field}
 use Rattle.sip_words.specs.Words.{blank_len}
-use Rattle.sip_words.specs.Grammar.{lws, MarkTree, mark, IsMark, ValueTree, value, ParamTree, assigned, param, value_place, params, named_tree, named_place}
-use Rattle.sip_words.proofs.Pieces.{behind, within, part_is, word_again, lws_again, gap_again, mark_again, solid, token_solid, name_solid, word_at_again}
+use Rattle.sip_words.specs.Grammar.{lws, SeparatorTree, separator, IsSeparator, ValueTree, value, ParamTree, assigned, param, value_place, params, named_tree, named_place}
+use Rattle.sip_words.proofs.Pieces.{behind, within, part_is, word_again, lws_again, gap_again, separator_again, solid, token_solid, name_solid, word_at_again}
 use Rattle.sip_words.proofs.Again.{stops_token, stops_params, params_again, named_is}
 use Rattle.sip_fields.specs.Via.{protocol_at, token_value, branch_of, via_at}
 use Rattle.sip_fields.specs.Parts.{host, port, tail, value_of_param}
 use Rattle.sip_fields.specs.ViaGrammar.{ViaTree, protocol, via, HasToken, IsVia, via_place}
 use Rattle.sip_fields.proofs.Runs.{stops_gap}
 use Rattle.sip_fields.proofs.Hosts.{host_word, host_again}
-use Rattle.sip_fields.proofs.Ports.{no_mark_here, tail_without, params_without, stops_tail, port_ends, port_again, next_again}
+use Rattle.sip_fields.proofs.Ports.{no_separator_here, tail_without, params_without, stops_tail, port_ends, port_again, next_again}
 
 branch_value : (text : List ℕ) (i : ℕ) (v : Option ValueTree) (rest : List ℕ) → drop i text ≡ assigned v ++ rest → HasToken v → token_value text (value_place i v) ≡ Some (value_place i v)
 branch_value text i None rest h has_it = absurd has_it
@@ -23,10 +23,10 @@ branch_value text i (Some v) rest h has_it =
     rw (part_is text (i + 1) (value v) rest inside, has_it) refl
 
 -- the place behind a parameter's name
-pub value_here : (text : List ℕ) (i : ℕ) (p : ParamTree) (rest : List ℕ) → drop i text ≡ param p ++ rest → drop (i + length (mark 59 p.semicolon) + length p.name) text ≡ assigned p.value ++ rest
+pub value_here : (text : List ℕ) (i : ℕ) (p : ParamTree) (rest : List ℕ) → drop i text ≡ param p ++ rest → drop (i + length (separator 59 p.semicolon) + length p.name) text ≡ assigned p.value ++ rest
 value_here text i p rest h =
-    let whole = h ∙ append_assoc (mark 59 p.semicolon) (p.name ++ assigned p.value) rest in
-    let at = behind text i (mark 59 p.semicolon) _ whole ∙ append_assoc p.name (assigned p.value) rest in
+    let whole = h ∙ append_assoc (separator 59 p.semicolon) (p.name ++ assigned p.value) rest in
+    let at = behind text i (separator 59 p.semicolon) _ whole ∙ append_assoc p.name (assigned p.value) rest in
     behind text _ p.name _ at
 
 branch_is : (text : List ℕ) (i : ℕ) (ps : List ParamTree) (rest : List ℕ) → drop i text ≡ params ps ++ rest → IfSome (named_tree (codes "branch") ps) (λ p. HasToken p.value) → branch_of text (named_place (codes "branch") i ps) ≡ Some (value_of_param (named_place (codes "branch") i ps))
@@ -65,33 +65,33 @@ sip_solid w x h = word_solid (codes "SIP") w x (λ m v is. by_blank (λ n. str_e
 version_solid : (w x : List ℕ) → str_eq_ignore_ascii_case w (codes "2.0") ≡ true → blank_len (w ++ x) ≡ 0
 version_solid w x h = word_solid (codes "2.0") w x (λ m v is. by_blank (λ n. str_eq_ignore_ascii_case (n ∷ v) (codes "2.0") ≡ false) refl refl refl m is) refl h
 
-spaced : (m : MarkTree) → IsMark Field m
+spaced : (m : SeparatorTree) → IsSeparator Field m
 spaced m = record { before = tt; after = tt }
 
 protocol_again : (text : List ℕ) (i : ℕ) (t : ViaTree) (rest : List ℕ) → drop i text ≡ protocol t ++ rest → IsVia t → blank_len rest ≡ 0 → protocol_at text i ≡ Some (i + length (protocol t))
 unfolding protocol_at
 protocol_again text i t rest h is none =
-    let whole = h ∙ six t.sip (mark 47 t.slash) t.version (mark 47 t.second_slash) t.transport (lws t.gap) rest in
+    let whole = h ∙ six t.sip (separator 47 t.slash) t.version (separator 47 t.second_slash) t.transport (lws t.gap) rest in
     let a = word_at_again t.sip (codes "SIP") text i _ whole is.sip in
     let in_b = behind text i t.sip _ whole in
-    let b = mark_again Field 47 text _ t.slash _ (refl, refl) (spaced t.slash) (version_solid t.version _ is.version) in_b in
-    let in_c = behind text _ (mark 47 t.slash) _ in_b in
+    let b = separator_again Field 47 text _ t.slash _ (refl, refl) (spaced t.slash) (version_solid t.version _ is.version) in_b in
+    let in_c = behind text _ (separator 47 t.slash) _ in_b in
     let c = word_at_again t.version (codes "2.0") text _ _ in_c is.version in
     let in_d = behind text _ t.version _ in_c in
     let transport = is.transport in
-    let d = mark_again Field 47 text _ t.second_slash _ (refl, refl) (spaced t.second_slash) (token_solid t.transport (lws t.gap ++ rest) transport) in_d in
-    let in_e = behind text _ (mark 47 t.second_slash) _ in_d in
+    let d = separator_again Field 47 text _ t.second_slash _ (refl, refl) (spaced t.second_slash) (token_solid t.transport (lws t.gap ++ rest) transport) in_d in
+    let in_e = behind text _ (separator 47 t.second_slash) _ in_d in
     let e = word_again class.Token text _ t.transport _ in_e transport (stops_token Field _ (stops_gap t.gap rest is.gap)) in
     let in_f = behind text _ t.transport _ in_e in
     let f = gap_again text _ t.gap rest in_f none is.gap in
-    rw (a, b, c, d, e, f) (ap (λ (n : ℕ). Some n) (omega (arith, six_length t.sip (mark 47 t.slash) t.version (mark 47 t.second_slash) t.transport (lws t.gap))))
+    rw (a, b, c, d, e, f) (ap (λ (n : ℕ). Some n) (omega (arith, six_length t.sip (separator 47 t.slash) t.version (separator 47 t.second_slash) t.transport (lws t.gap))))
 
 pub via_again : (text : List ℕ) (i : ℕ) (t : ViaTree) → i ≤ length text → drop i text ≡ via t → IsVia t → via_at text i ≡ Some (via_place i t)
 unfolding via_at
 via_again text i t le h is =
     let rest = params t.params ++ tail t.tail in
     let stops = stops_params Field t.params (tail t.tail) is.params (stops_tail t.tail) in
-    let start = lws_again text i t.lead _ h (ap blank_len (six t.sip (mark 47 t.slash) t.version (mark 47 t.second_slash) t.transport (lws t.gap) _) ∙ sip_solid t.sip _ is.sip) in
+    let start = lws_again text i t.lead _ h (ap blank_len (six t.sip (separator 47 t.slash) t.version (separator 47 t.second_slash) t.transport (lws t.gap) _) ∙ sip_solid t.sip _ is.sip) in
     let at_1 = behind text i (lws t.lead) _ h in
     let protocol_is = protocol_again text _ t _ at_1 is (name_solid (host t.host) _ (host_word t.host is.host)) in
     let at_2 = behind text _ (protocol t) _ at_1 in
@@ -100,7 +100,7 @@ via_again text i t le h is =
     let port_is = port_again Field text _ t.port rest at_3 is.port (params_without Field 58 t.params (tail t.tail) is.params refl (tail_without 58 t.tail refl)) stops in
     let at_4 = behind text _ (port t.port) _ at_3 in
     let at_5 = behind text _ (params t.params) _ at_4 in
-    let none = no_mark_here Field 59 text _ (tail t.tail) at_5 (tail_without 59 t.tail refl) in
+    let none = no_separator_here Field 59 text _ (tail t.tail) at_5 (tail_without 59 t.tail refl) in
     let params_is = params_again Field text _ t.params (tail t.tail) at_4 is.params (stops_tail t.tail) none in
     let branch_name = named_is (codes "branch") text _ t.params _ at_4 in
     let received_name = named_is (codes "received") text _ t.params _ at_4 in

@@ -7,17 +7,17 @@ use Rattle.std.proofs.lemmas.Bool.{cases_Bool}
 use Rattle.std.proofs.lemmas.Option.{cond_some, none-some}
 use Rattle.sip_words.specs.declared.Span.{Span}
 use Rattle.sip_words.specs.declared.bytes.Class.TheVariants as class
-use Rattle.sip_words.specs.declared.marks.Setting.TheVariants.{Field}
+use Rattle.sip_words.specs.declared.separators.Surroundings.TheVariants.{Field}
 use Rattle.sip_words.specs.declared.params.Param.{Param}
 use Rattle.sip_words.specs.Bytes.{has}
 use Rattle.sip_words.specs.Words.{word_at, word_end, lws_end}
-use Rattle.sip_words.specs.Marks.{mark_at}
+use Rattle.sip_words.specs.Separators.{separator_at}
 use Rattle.sip_words.specs.Params.{params_at, named}
 use Rattle.sip_words.specs.Grammar.{lws, ValueTree, value, ParamTree, assigned, param, value_place, params, named_tree, named_place}
 use Rattle.sip_words.proofs.Steps.{bind_some}
 use Rattle.sip_words.proofs.Pieces.{behind, part_is}
 use Rattle.sip_words.proofs.Again.{named_is}
-use Rattle.sip_words.proofs.Takes.{Takes, then, lws_takes, mark_takes, word_takes, word_at_takes, gap_takes, params_takes}
+use Rattle.sip_words.proofs.Takes.{Takes, then, lws_takes, separator_takes, word_takes, word_at_takes, gap_takes, params_takes}
 use Rattle.sip_fields.specs.declared.via.Via.{Via}
 use Rattle.sip_fields.specs.Host.{host_at, port_at}
 use Rattle.sip_fields.specs.Tail.{next_at}
@@ -52,9 +52,9 @@ via_takes text i v h =
     let lead = lws_takes text i in
     let at = bind_some (protocol_at text (lws_end text i)) _ v h in
     let sip = bind_some (word_at (codes "SIP") text (lws_end text i)) _ at.0 at.1 in
-    let slash = bind_some (mark_at Field 47 text sip.0) _ at.0 sip.2 in
+    let slash = bind_some (separator_at Field 47 text sip.0) _ at.0 sip.2 in
     let version = bind_some (word_at (codes "2.0") text slash.0.end) _ at.0 slash.2 in
-    let second = bind_some (mark_at Field 47 text version.0) _ at.0 version.2 in
+    let second = bind_some (separator_at Field 47 text version.0) _ at.0 version.2 in
     let transport = bind_some (word_end class.Token text second.0.end) _ at.0 second.2 in
     let host_of = bind_some (host_at text at.0) _ v at.2 in
     let port_of = bind_some (port_at Field text host_of.0.1) _ v host_of.2 in
@@ -62,9 +62,9 @@ via_takes text i v h =
     let branch = bind_some (branch_of text (named (codes "branch") text ps.0.0)) _ v ps.2 in
     let next = bind_some (next_at text ps.0.1) _ v branch.2 in
     let a = word_at_takes (codes "SIP") text _ sip.0 sip.1 in
-    let b = mark_takes Field 47 text sip.0 slash.0 slash.1 in
+    let b = separator_takes Field 47 text sip.0 slash.0 slash.1 in
     let c = word_at_takes (codes "2.0") text slash.0.end version.0 version.1 in
-    let d = mark_takes Field 47 text version.0 second.0 second.1 in
+    let d = separator_takes Field 47 text version.0 second.0 second.1 in
     let e = word_takes class.Token text second.0.end transport.0 transport.1 in
     let f = gap_takes text transport.0 at.0 transport.2 in
     let w = host_takes text at.0 host_of.0 host_of.1 in

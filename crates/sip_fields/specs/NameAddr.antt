@@ -1,9 +1,10 @@
 -- The fields From, To and Route, as functions of a text and the place where a value and the LWS before it begin.
 use Rattle.std.specs.Prelude.{ℕ, ◌+◌, ◌<◌, ◌≤◌, List, length, take, Option, Some, None, IfSome, if◌then◌else◌, slice_range}
 use Rattle.std.specs.Option.{option_map}
+use Rattle.sip_words.specs.ByteNames.{DQUOTE, LAQUOT, RAQUOT}
 use Rattle.sip_words.specs.declared.Span.{Span}
 use Rattle.sip_words.specs.declared.bytes.Class.TheVariants.{Token, Bare, InBrackets}
-use Rattle.sip_words.specs.declared.marks.Setting.TheVariants.{Field}
+use Rattle.sip_words.specs.declared.separators.Surroundings.TheVariants.{Field}
 use Rattle.sip_words.specs.declared.params.Param.{Param}
 use Rattle.sip_words.specs.Bytes.{◌and◌}
 use Rattle.sip_words.specs.Spans.{span, IsBetween}
@@ -29,7 +30,7 @@ names_end text i = option_map (λ names. names.1) (many (length text) (next_name
 -- the end of a display name and the LWS behind it: a quoted string, tokens, or nothing
 unfoldable pub display_end : List ℕ → ℕ → Option ℕ
 display_end text i =
-    if stands 34 text i
+    if stands DQUOTE text i
     then (do
       end ← quoted_end text (i + 1)
       Some (lws_end text end))
@@ -39,13 +40,13 @@ display_end text i =
 unfoldable pub open_at : List ℕ → ℕ → Option ℕ
 open_at text i = do
   place ← display_end text i
-  if stands 60 text place then Some (place + 1) else None
+  if stands LAQUOT text place then Some (place + 1) else None
 
 -- the URI up to a >, and the place behind it
 unfoldable pub closed_uri : List ℕ → ℕ → Option (Span × ℕ)
 closed_uri text i =
     let end = run_end InBrackets text i in
-    if stands 62 text end and is_absolute (slice_range text i end) then Some (span i end, end + 1) else None
+    if stands RAQUOT text end and is_absolute (slice_range text i end) then Some (span i end, end + 1) else None
 
 -- the URI without < and >, and its end
 unfoldable pub bare_uri : List ℕ → ℕ → Option (Span × ℕ)

@@ -2,9 +2,10 @@
 -- name-addr, addr-spec).
 use Rattle.std.specs.Prelude.{◌≡◌, ℕ, ◌+◌, ◌<◌, List, [], ◌∷◌, ◌++◌, length, drop, codes}
 use Rattle.std.specs.List.{flat_map, AllByRecursion}
+use Rattle.sip_words.specs.ByteNames.{LAQUOT, RAQUOT}
 use Rattle.sip_words.specs.declared.Span.{Span}
 use Rattle.sip_words.specs.declared.bytes.Class.TheVariants as class
-use Rattle.sip_words.specs.declared.marks.Setting.TheVariants.{Field}
+use Rattle.sip_words.specs.declared.separators.Surroundings.TheVariants.{Field}
 use Rattle.sip_words.specs.Spans.{span}
 use Rattle.sip_words.specs.Grammar.{Blank, lws, IsWord, Quotable, IsQuotable, quoted, ParamTree, IsParam, params, named_place}
 use Rattle.sip_fields.specs.declared.name_addr.NameAddr.{NameAddr}
@@ -45,7 +46,7 @@ pub data AddressTree : Type 0 where
   Plain : AbsoluteTree → AddressTree
 
 abbrev pub address : AddressTree → List ℕ
-address (Bracketed d u) = display d ++ (60 ∷ (absolute u ++ 62 ∷ []))
+address (Bracketed d u) = display d ++ (LAQUOT ∷ (absolute u ++ RAQUOT ∷ []))
 address (Plain u) = absolute u
 
 pub record IsBracketed (d : DisplayTree) (u : AbsoluteTree) : Type 0 where

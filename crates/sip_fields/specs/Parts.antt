@@ -2,11 +2,12 @@
 use Rattle.std.specs.Prelude.{◌≢◌, ℕ, ◌+◌, ◌<◌, ◌≤◌, List, [], ◌∷◌, ◌++◌, length, Option, Some, None}
 use Rattle.std.specs.Int.{w32, from_be_bytes}
 use Rattle.std.specs.Str.Parse.{digits_value}
+use Rattle.sip_words.specs.ByteNames.{COMMA, DOT, COLON}
 use Rattle.sip_words.specs.declared.Span.{Span}
 use Rattle.sip_words.specs.declared.bytes.Class.TheVariants as class
-use Rattle.sip_words.specs.declared.marks.Setting.{Setting}
+use Rattle.sip_words.specs.declared.separators.Surroundings.{Surroundings}
 use Rattle.sip_words.specs.declared.params.Param.{Param}
-use Rattle.sip_words.specs.Grammar.{Blank, lws, NoBlank, MarkTree, mark, IsMark, IsWord}
+use Rattle.sip_words.specs.Grammar.{Blank, lws, NoBlank, SeparatorTree, separator, IsSeparator, IsWord}
 use Rattle.sip_fields.specs.declared.host.Host.{Host}
 use Rattle.sip_fields.specs.declared.host.Host.TheVariants.{V4, Name}
 
@@ -16,7 +17,7 @@ pub data HostTree : Type 0 where
   Named : List ℕ → HostTree
 
 abbrev pub host : HostTree → List ℕ
-host (Numbers a b c d) = a ++ (46 ∷ (b ++ (46 ∷ (c ++ (46 ∷ d)))))
+host (Numbers a b c d) = a ++ (DOT ∷ (b ++ (DOT ∷ (c ++ (DOT ∷ d)))))
 host (Named w) = w
 
 -- one to three digits that write a number 0 to 255
@@ -45,16 +46,16 @@ host_value (Numbers a b c d) = V4 (from_be_bytes w32 (digits_value 10 a ∷ digi
 host_value (Named w) = Name
 
 pub record PortTree : Type 0 where
-  pub colon : MarkTree
+  pub colon : SeparatorTree
   pub digits : List ℕ
 
 abbrev pub port : Option PortTree → List ℕ
 port None = []
-port (Some p) = mark 58 p.colon ++ p.digits
+port (Some p) = separator COLON p.colon ++ p.digits
 
 -- one to five digits that write a number 1 to 65535
-pub record IsPort (setting : Setting) (p : PortTree) : Type 0 where
-  pub colon : IsMark setting p.colon
+pub record IsPort (surroundings : Surroundings) (p : PortTree) : Type 0 where
+  pub colon : IsSeparator surroundings p.colon
   pub word : IsWord class.Digit p.digits
   pub few : length p.digits ≤ 5
   pub low : 0 < digits_value 10 p.digits
@@ -67,11 +68,11 @@ port_value (Some p) = Some (digits_value 10 p.digits)
 -- behind a value: the end of the field, or a comma and whatever stands behind it
 pub data Tail : Type 0 where
   Last : List Blank → Tail
-  More : MarkTree → List ℕ → Tail
+  More : SeparatorTree → List ℕ → Tail
 
 abbrev pub tail : Tail → List ℕ
 tail (Last bs) = lws bs
-tail (More m rest) = mark 44 m ++ rest
+tail (More m rest) = separator COMMA m ++ rest
 
 -- the LWS behind the comma is all that stands there
 abbrev pub IsTail : Tail → Type 0
@@ -80,7 +81,7 @@ IsTail (More m rest) = NoBlank rest
 
 abbrev pub next_place : ℕ → Tail → Option ℕ
 next_place i (Last bs) = None
-next_place i (More m rest) = Some (i + length (mark 44 m))
+next_place i (More m rest) = Some (i + length (separator COMMA m))
 
 -- the value of a parameter, if there is one and it has one
 abbrev pub value_of_param : Option Param → Option Span

@@ -1,9 +1,10 @@
 -- URIs, as functions of a text and a place in it. A URI ends where the text ends.
 use Rattle.std.specs.Prelude.{ℕ, ◌+◌, ◌==◌, Bool, false, List, length, Option, Some, None, IfSome, is_some, nat_lt, if◌then◌else◌, slice_range, codes}
 use Rattle.std.specs.Str.{str_eq_ignore_ascii_case}
+use Rattle.sip_words.specs.ByteNames.{COLON, QUESTION, AT}
 use Rattle.sip_words.specs.declared.Span.{Span}
 use Rattle.sip_words.specs.declared.bytes.Class.TheVariants.{Letter, Scheme, User, Password, BeforeAt}
-use Rattle.sip_words.specs.declared.marks.Setting.TheVariants as setting
+use Rattle.sip_words.specs.declared.separators.Surroundings.TheVariants as surroundings
 use Rattle.sip_words.specs.Bytes.{◌or◌}
 use Rattle.sip_words.specs.Spans.{span, IsBetween}
 use Rattle.sip_words.specs.Words.{◌>>=◌, run_end, word_end, stands}
@@ -19,7 +20,7 @@ unfoldable pub scheme_end : List ℕ → ℕ → Option ℕ
 scheme_end text i = do
   letter ← word_end Letter text i
   let colon = run_end Scheme text i
-  if stands 58 text colon then Some colon else None
+  if stands COLON text colon then Some colon else None
 
 -- one more byte stands behind this place
 abbrev pub has_more : List ℕ → Option ℕ → Bool
@@ -36,28 +37,28 @@ scheme_of word =
     if str_eq_ignore_ascii_case word (codes "sips") then Sips else Other
 
 unfoldable pub password_end : List ℕ → ℕ → ℕ
-password_end text i = if stands 58 text i then run_end Password text (i + 1) else i
+password_end text i = if stands COLON text i then run_end Password text (i + 1) else i
 
 -- user@ or user:password@
 unfoldable pub user_at : List ℕ → ℕ → Option (Option Span × ℕ)
 user_at text i = do
   user ← word_end User text i
   let at = password_end text user
-  if stands 64 text at then Some (Some (span i user), at + 1) else None
+  if stands AT text at then Some (Some (span i user), at + 1) else None
 
 -- the user stands exactly where an @ comes
 unfoldable pub login_at : List ℕ → ℕ → Option (Option Span × ℕ)
-login_at text i = if stands 64 text (run_end BeforeAt text i) then user_at text i else Some (None, i)
+login_at text i = if stands AT text (run_end BeforeAt text i) then user_at text i else Some (None, i)
 
 -- user:password@host:port;parameters?headers
 unfoldable pub sip_at : scheme.Scheme → List ℕ → ℕ → Option Uri
 sip_at s text i = do
   login ← login_at text i
   host ← host_at text login.1
-  port ← port_at setting.Uri text host.1
-  ps ← params_at setting.Uri text port.1
+  port ← port_at surroundings.Uri text host.1
+  ps ← params_at surroundings.Uri text port.1
   let params = known text ps
-  if (params.end == length text) or stands 63 text params.end
+  if (params.end == length text) or stands QUESTION text params.end
       then Some record { scheme = s; user = login.0; host = host.0; host_at = span login.1 host.1; port = port.0; lr = is_some params.lr }
       else None
 

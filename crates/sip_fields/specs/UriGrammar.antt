@@ -1,10 +1,11 @@
 -- The grammar of URIs (RFC 3261, sections 19.1.1 and 25.1: SIP-URI, SIPS-URI, absoluteURI).
 use Rattle.std.specs.Prelude.{◌≡◌, ◌≢◌, ℕ, ◌+◌, ◌<◌, true, false, List, [], ◌∷◌, ◌++◌, length, drop, is_some, Option, Some, None, IfSome, IfNone, codes}
 use Rattle.std.specs.List.{AllByRecursion}
+use Rattle.sip_words.specs.ByteNames.{COLON, QUESTION, AT}
 use Rattle.sip_words.specs.declared.Span.{Span}
 use Rattle.sip_words.specs.declared.bytes.Class.{Class}
 use Rattle.sip_words.specs.declared.bytes.Class.TheVariants.{Letter, Scheme, User, Password, BeforeAt}
-use Rattle.sip_words.specs.declared.marks.Setting.TheVariants as setting
+use Rattle.sip_words.specs.declared.separators.Surroundings.TheVariants as surroundings
 use Rattle.sip_words.specs.Bytes.{has}
 use Rattle.sip_words.specs.Spans.{span}
 use Rattle.sip_words.specs.Grammar.{IsWord, ParamTree, IsParam, params, named_tree}
@@ -34,7 +35,7 @@ pub record AbsoluteTree : Type 0 where
   pub rest : List ℕ
 
 abbrev pub absolute : AbsoluteTree → List ℕ
-absolute t = t.scheme ++ (58 ∷ t.rest)
+absolute t = t.scheme ++ (COLON ∷ t.rest)
 
 pub record IsAbsolute (t : AbsoluteTree) : Type 0 where
   pub scheme : IsScheme t.scheme
@@ -47,11 +48,11 @@ pub record LoginTree : Type 0 where
 
 abbrev pub password : Option (List ℕ) → List ℕ
 password None = []
-password (Some w) = 58 ∷ w
+password (Some w) = COLON ∷ w
 
 abbrev pub login : Option LoginTree → List ℕ
 login None = []
-login (Some l) = l.user ++ (password l.password ++ 64 ∷ [])
+login (Some l) = l.user ++ (password l.password ++ AT ∷ [])
 
 pub record IsLogin (l : LoginTree) : Type 0 where
   pub user : IsWord User l.user
@@ -59,7 +60,7 @@ pub record IsLogin (l : LoginTree) : Type 0 where
 
 abbrev pub headers : Option (List ℕ) → List ℕ
 headers None = []
-headers (Some w) = 63 ∷ w
+headers (Some w) = QUESTION ∷ w
 
 -- sip: or sips:, then user:password@host:port;parameters?headers
 pub record SipTree : Type 0 where
@@ -80,15 +81,15 @@ pub record IsSip (t : SipTree) : Type 0 where
   pub login : IfSome t.login IsLogin
   pub no_login : IfNone t.login (AreAll BeforeAt (behind_login t))
   pub host : IsHost t.host
-  pub port : IfSome t.port (IsPort setting.Uri)
-  pub params : AllByRecursion (IsParam setting.Uri) t.params
+  pub port : IfSome t.port (IsPort surroundings.Uri)
+  pub params : AllByRecursion (IsParam surroundings.Uri) t.params
 
 pub data UriTree : Type 0 where
   SipUri : SipTree → UriTree
   OtherUri : AbsoluteTree → UriTree
 
 abbrev pub uri : UriTree → List ℕ
-uri (SipUri t) = t.scheme ++ (58 ∷ (login t.login ++ behind_login t))
+uri (SipUri t) = t.scheme ++ (COLON ∷ (login t.login ++ behind_login t))
 uri (OtherUri t) = absolute t
 
 pub record IsOther (t : AbsoluteTree) : Type 0 where

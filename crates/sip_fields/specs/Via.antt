@@ -1,14 +1,15 @@
 -- The field Via, as a function of a text and the place where a value and the LWS before it begin.
 use Rattle.std.specs.Prelude.{ℕ, ◌<◌, ◌≤◌, List, Option, Some, None, IfSome, slice_range, if◌then◌else◌, codes}
 use Rattle.std.specs.List.{list_all}
+use Rattle.sip_words.specs.ByteNames.{SLASH}
 use Rattle.sip_words.specs.declared.Span.{Span}
 use Rattle.sip_words.specs.declared.bytes.Class.TheVariants.{Token}
-use Rattle.sip_words.specs.declared.marks.Setting.TheVariants.{Field}
+use Rattle.sip_words.specs.declared.separators.Surroundings.TheVariants.{Field}
 use Rattle.sip_words.specs.declared.params.Param.{Param}
 use Rattle.sip_words.specs.Bytes.{has}
 use Rattle.sip_words.specs.Spans.{span, IsBetween}
 use Rattle.sip_words.specs.Words.{◌>>=◌, word_at, word_end, lws_end, gap_end}
-use Rattle.sip_words.specs.Marks.{mark_at}
+use Rattle.sip_words.specs.Separators.{separator_at}
 use Rattle.sip_words.specs.Params.{params_at, known}
 use Rattle.sip_fields.specs.declared.via.Via.{Via}
 use Rattle.sip_fields.specs.declared.via.Rport.{Rport}
@@ -20,9 +21,9 @@ use Rattle.sip_fields.specs.Tail.{next_at}
 unfoldable pub protocol_at : List ℕ → ℕ → Option ℕ
 protocol_at text i = do
   sip ← word_at (codes "SIP") text i
-  slash ← mark_at Field 47 text sip
+  slash ← separator_at Field SLASH text sip
   version ← word_at (codes "2.0") text slash.end
-  slash ← mark_at Field 47 text version
+  slash ← separator_at Field SLASH text version
   transport ← word_end Token text slash.end
   gap_end text transport
 

@@ -2,11 +2,12 @@
 use Rattle.std.specs.Prelude.{◌≡◌, ℕ, ◌+◌, ◌<◌, true, List, ◌++◌, length, drop, Option, Some, None, IfSome, codes}
 use Rattle.std.specs.List.{list_all, AllByRecursion}
 use Rattle.std.specs.Str.{str_eq_ignore_ascii_case}
+use Rattle.sip_words.specs.ByteNames.{SLASH}
 use Rattle.sip_words.specs.declared.bytes.Class.TheVariants.{Token}
-use Rattle.sip_words.specs.declared.marks.Setting.TheVariants.{Field}
+use Rattle.sip_words.specs.declared.separators.Surroundings.TheVariants.{Field}
 use Rattle.sip_words.specs.Bytes.{has}
 use Rattle.sip_words.specs.Spans.{span}
-use Rattle.sip_words.specs.Grammar.{Blank, lws, MarkTree, mark, IsWord, ValueTree, value, ParamTree, IsParam, params, named_tree, named_place}
+use Rattle.sip_words.specs.Grammar.{Blank, lws, SeparatorTree, separator, IsWord, ValueTree, value, ParamTree, IsParam, params, named_tree, named_place}
 use Rattle.sip_fields.specs.declared.via.Via.{Via}
 use Rattle.sip_fields.specs.Via.{rport_of, received_of}
 use Rattle.sip_fields.specs.Parts.{HostTree, host, IsHost, host_value, PortTree, port, IsPort, port_value, Tail, tail, IsTail, next_place, value_of_param}
@@ -14,9 +15,9 @@ use Rattle.sip_fields.specs.Parts.{HostTree, host, IsHost, host_value, PortTree,
 pub record ViaTree : Type 0 where
   pub lead : List Blank
   pub sip : List ℕ
-  pub slash : MarkTree
+  pub slash : SeparatorTree
   pub version : List ℕ
-  pub second_slash : MarkTree
+  pub second_slash : SeparatorTree
   pub transport : List ℕ
   pub gap : List Blank
   pub host : HostTree
@@ -25,7 +26,7 @@ pub record ViaTree : Type 0 where
   pub tail : Tail
 
 abbrev pub protocol : ViaTree → List ℕ
-protocol t = t.sip ++ (mark 47 t.slash ++ (t.version ++ (mark 47 t.second_slash ++ (t.transport ++ lws t.gap))))
+protocol t = t.sip ++ (separator SLASH t.slash ++ (t.version ++ (separator SLASH t.second_slash ++ (t.transport ++ lws t.gap))))
 
 -- SIP/2.0/transport host:port;parameters
 abbrev pub via : ViaTree → List ℕ

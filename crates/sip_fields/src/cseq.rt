@@ -1,12 +1,11 @@
+//! The value of CSeq (RFC 3261, sections 20.16 and 25.1).
 ghost use Rattle.std.specs.Prelude.{◌≡◌, ◌≤◌, ◌<◌, length, take, IfSome, IfOk, Ok};
 ghost use Rattle.sip_fields.specs.Tail.{or_bad};
 ghost use Rattle.sip_fields.specs.CSeq.{cseq_at, IsCSeqBetween};
 ghost use Rattle.sip_fields.specs.CSeqGrammar.{IsCSeqAt};
 
 use crate::tail::Bad;
-use sip_words::numbers::number_at;
-use sip_words::words::{gap_end, lws_end, word_end};
-use sip_words::{Class, Span};
+use sip_words::{Class, Span, gap_end, lws_end, number_at, word_end};
 
 /// The value of CSeq: a number below 2^31, and the method.
 #[derive(Clone, Copy, Debug, PartialEq, Eq)]

@@ -19,5 +19,5 @@ pub use host::Host;
 pub use name_addr::{NameAddr, read_name_addr, read_route};
 pub use sip_words::Span;
 pub use tail::Bad;
-pub use uri::{Scheme, Uri, read_uri};
+pub use uri::{Scheme, Uri, is_absolute, read_uri};
 pub use via::{Rport, Via, read_via};

@@ -1,3 +1,4 @@
+//! The values of From, To and Route (RFC 3261, sections 20.20, 20.34, 20.39 and 25.1).
 ghost use Rattle.std.specs.Prelude.{◌≡◌, ◌≤◌, ◌<◌, length, take, IfSome, IfOk, Ok, Some};
 ghost use Rattle.sip_words.specs.Spans.{IsBetween};
 ghost use Rattle.sip_fields.specs.Tail.{or_bad};
@@ -6,9 +7,9 @@ ghost use Rattle.sip_fields.specs.NameAddrGrammar.{IsNameAddrAt, IsRouteAt};
 
 use crate::tail::{Bad, next_at};
 use crate::uri::{is_absolute, uri_at};
-use sip_words::params::params_at;
-use sip_words::words::{lws_end, quoted_end, run_end, stands, word_end};
-use sip_words::{Class, Setting, Span};
+use sip_words::{
+    Class, Span, Surroundings, lws_end, params_at, quoted_end, run_end, stands, word_end,
+};
 
 /// A value of From, To or Route: a URI, and what stands round it.
 #[derive(Clone, Copy, Debug, PartialEq, Eq)]
@@ -131,7 +132,7 @@ fn rest_at(text: &[u8], start: usize, uri: Span, from: usize) -> Option<NameAddr
     ensures value { result ≡ rest_at text.now start (uri, from) }
     ensures between { IfSome result (IsNameAddrBetween start (length text.now)) }
 {
-    let params = params_at(text, from, Setting::Field)?;
+    let params = params_at(text, from, Surroundings::Field)?;
     let next = next_at(text, params.end)?;
     Some(NameAddr {
         uri,

@@ -1,9 +1,8 @@
+//! What stands behind a value: the end of its field, or a comma and the next one.
 ghost use Rattle.std.specs.Prelude.{◌≡◌, ◌≤◌, ◌<◌, length, IfSome};
 ghost use Rattle.sip_fields.specs.Tail.{next_at};
 
-use sip_words::Setting;
-use sip_words::marks::mark_at;
-use sip_words::words::lws_end;
+use sip_words::{Surroundings, lws_end, separator_at};
 
 /// No value of the field stands there.
 #[derive(Clone, Copy, Debug, PartialEq, Eq)]
@@ -16,7 +15,7 @@ pub fn next_at(text: &[u8], from: usize) -> Option<Option<usize>>
     ensures value { result ≡ next_at text.now from }
     ensures bounds { IfSome result (λ next. IfSome next (λ n. (from < n) × (n ≤ length text.now))) }
 {
-    if let Some(comma) = mark_at(text, from, b',', Setting::Field) {
+    if let Some(comma) = separator_at(text, from, b',', Surroundings::Field) {
         return Some(Some(comma.end));
     }
     if lws_end(text, from) == text.len() {

@@ -1,3 +1,4 @@
+//! Values of fields, worked out by hand.
 ghost use Rattle.std.specs.Prelude.{◌≡◌, length};
 
 use crate::{Host, Rport, Scheme, Span, read_cseq, read_name_addr, read_route, read_uri, read_via};

@@ -1,3 +1,4 @@
+//! URIs (RFC 3261, sections 19.1.1 and 25.1).
 ghost use Rattle.std.specs.Prelude.{◌≡◌, ◌≤◌, ◌<◌, ◌≢◌, length, take, IfSome, IfOk, Ok, IsTrue};
 ghost use Rattle.sip_words.specs.Spans.{IsBetween};
 ghost use Rattle.sip_fields.specs.Tail.{or_bad};
@@ -7,10 +8,9 @@ ghost use Rattle.sip_fields.specs.UriGrammar.{IsUriAt};
 
 use crate::host::{Host, host_at, port_at};
 use crate::tail::Bad;
-use sip_words::marks::mark_at;
-use sip_words::params::params_at;
-use sip_words::words::{run_end, same_word, stands, word_end};
-use sip_words::{Class, Setting, Span};
+use sip_words::{
+    Class, Span, Surroundings, params_at, run_end, same_word, separator_at, stands, word_end,
+};
 
 /// The scheme of a URI, whose case is ignored.
 #[derive(Clone, Copy, Debug, PartialEq, Eq)]
@@ -124,8 +124,8 @@ fn sip_at(text: &[u8], from: usize, scheme: Scheme) -> Option<Uri>
 {
     let (user, host_from) = login_at(text, from)?;
     let (host, host_end) = host_at(text, host_from)?;
-    let (port, port_end) = port_at(text, host_end, Setting::Uri)?;
-    let params = params_at(text, port_end, Setting::Uri)?;
+    let (port, port_end) = port_at(text, host_end, Surroundings::Uri)?;
+    let params = params_at(text, port_end, Surroundings::Uri)?;
     if params.end != text.len() && !stands(text, params.end, b'?') {
         return None;
     }

@@ -1,3 +1,4 @@
+//! The value of Via (RFC 3261, sections 20.42 and 25.1).
 ghost use Rattle.std.specs.Prelude.{◌≡◌, ◌≤◌, ◌<◌, length, take, IfSome, IfOk, Ok};
 ghost use Rattle.sip_words.specs.Spans.{IsBetween, HasParts};
 ghost use Rattle.sip_fields.specs.Tail.{or_bad};
@@ -6,10 +7,10 @@ ghost use Rattle.sip_fields.specs.ViaGrammar.{IsViaAt};
 
 use crate::host::{Host, host_at, port_at};
 use crate::tail::{Bad, next_at};
-use sip_words::marks::mark_at;
-use sip_words::params::params_at;
-use sip_words::words::{gap_end, is_all, lws_end, word_at, word_end};
-use sip_words::{Class, Param, Setting, Span};
+use sip_words::{
+    Class, Param, Span, Surroundings, gap_end, is_all, lws_end, params_at, separator_at, word_at,
+    word_end,
+};
 
 /// The parameter `rport` of a Via value (RFC 3581).
 #[derive(Clone, Copy, Debug, PartialEq, Eq)]
@@ -22,6 +23,16 @@ pub enum Rport {
 }
 
 /// A value of Via.
+///
+/// ```
+/// let b = b"SIP/2.0/UDP 192.0.2.1:5062;rport;branch=z9hG4bK1";
+/// let via = read_via(b, Span { from: 0, to: 48 })?;
+/// via.host; // V4(0xc000_0201)
+/// via.port; // Some(5062)
+/// via.branch; // the span of `z9hG4bK1`
+/// via.rport; // Empty, with the span of `rport`
+/// via.next; // None: the field has no second value
+/// ```
 #[derive(Clone, Copy, Debug, PartialEq, Eq)]
 pub struct Via {
     pub host: Host,
@@ -46,9 +57,9 @@ fn protocol_at(text: &[u8], from: usize) -> Option<usize>
     ensures bounds { IfSome result (λ end. (from < end) × (end ≤ length text.now)) }
 {
     let name = word_at(text, from, b"SIP")?;
-    let slash = mark_at(text, name, b'/', Setting::Field)?;
+    let slash = separator_at(text, name, b'/', Surroundings::Field)?;
     let version = word_at(text, slash.end, b"2.0")?;
-    let slash = mark_at(text, version, b'/', Setting::Field)?;
+    let slash = separator_at(text, version, b'/', Surroundings::Field)?;
     let transport = word_end(text, slash.end, Class::Token)?;
     gap_end(text, transport)
 }
@@ -102,8 +113,8 @@ fn via_at(text: &[u8], from: usize) -> Option<Via>
     let start = lws_end(text, from);
     let place = protocol_at(text, start)?;
     let (host, host_end) = host_at(text, place)?;
-    let (port, port_end) = port_at(text, host_end, Setting::Field)?;
-    let params = params_at(text, port_end, Setting::Field)?;
+    let (port, port_end) = port_at(text, host_end, Surroundings::Field)?;
+    let params = params_at(text, port_end, Surroundings::Field)?;
     let branch = branch_of(text, params.branch, port_end)?;
     let next = next_at(text, params.end)?;
     Some(Via {

@@ -12,7 +12,7 @@ use Rattle.std.proofs.lemmas.Bool.{and_parts, cases_lt, ltb-true}
 use Rattle.std.specs.List.{list_all}
 use Rattle.hex.specs.Hex.{encode_with, encode_lower, decode_of, lower_digits}
 use Rattle.sip_keys.proofs.Bytes.{be_bytes}
-use Rattle.numerals.specs.Splits.{SplitsAt, Lacks}
+use Rattle.sip_words.specs.Splits.{SplitsAt, Lacks}
 use Rattle.numerals.proofs.Addresses.{only_split, not_split, split_one_way, decimal_lacks}
 use Rattle.sip_keys.specs.declared.branch.Branch.{Branch}
 use Rattle.sip_keys.specs.Branches.{branch_text, numbers_text, front_text, IsBranch}

@@ -1,4 +1,4 @@
-// The branches of this proxy's own Via values, and their texts.
+//! The branches of this proxy's own Via values, and their texts (RFC 3261, section 8.1.1.7).
 
 ghost use Rattle.std.specs.Prelude.{◌≡◌, ◌↔◌, IsTrue, ◌+◌, ◌^◌, ◌<◌, ◌≤◌, ◌++◌, List, ℕ, drop, length, Some, IfSome, IfNone};
 ghost use Rattle.std.specs.Fmt.{decimal};
@@ -6,7 +6,8 @@ ghost use Rattle.sip_keys.specs.Branches.{branch_text, front_text, numbers_text,
 ghost use Rattle.sip_keys.specs.declared.branch.Branch.{Branch};
 
 use itoa::Buffer;
-use numerals::{number, split_once};
+use numerals::number;
+use sip_words::split_once;
 
 /// The room that the text of a branch is given, in bytes.
 const ROOM: usize = 64;

@@ -1,4 +1,4 @@
-// The server key of a request.
+//! The server key of a request (RFC 3261, section 17.2.3).
 
 ghost use Rattle.std.specs.Prelude.{◌≡◌, codes, length, IfSome, slice_range, unwrap_or};
 ghost use Rattle.sip_words.specs.Spans.{IsBetween};

@@ -1,8 +1,8 @@
 //! The server key of a request, and the branches of this proxy's own Via values.
 #![tactic(auto)]
 
-pub mod branch;
-pub mod key;
+mod branch;
+mod key;
 pub mod laws;
 
 pub use branch::{Branch, branch_of, branch_text};

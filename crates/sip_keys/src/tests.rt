@@ -1,3 +1,4 @@
+//! Keys and branches worked out by hand.
 use crate::{Branch, branch_of, branch_text, invite_key, key_of};
 use sip_msg::Message;
 use std::process::Abort;

@@ -7,5 +7,6 @@ pub mod Only
 pub mod Places
 pub mod PlainTakes
 pub mod PlainAgain
+pub mod PlainAddresses
 pub mod Lies
 pub mod Tally

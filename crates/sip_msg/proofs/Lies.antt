@@ -43,7 +43,7 @@ use Rattle.sip_msg.specs.Fields.{first, is_missing, is_repeated}
 use Rattle.sip_msg.specs.Values.{call_id_at, via_of, name_addr_of, call_id_of, cseq_of, max_forwards_of, content_length_of, list_reads, fits, values_of}
 use Rattle.sip_msg.specs.Table.{head_of, fields_in, fields_of, values_under, announced, is_above, left_in, fault_of, end_behind, end_of, Reads}
 use Rattle.sip_msg.specs.Basis.{answerable_at, basis_in, basis_of}
-use Rattle.sip_msg.specs.Places.{InFirst, LiesIn, BasisLiesIn, IsComplete}
+use Rattle.sip_msg.specs.Places.{InFirst, MessageLiesIn, BasisLiesIn, IsComplete}
 use Rattle.sip_msg.proofs.Firsts.{found_is}
 use Rattle.sip_msg.proofs.StartLaw.{request_taken, status_taken}
 use Rattle.sip_msg.proofs.Complete.{start_stands}
@@ -185,13 +185,13 @@ end_lies b start h end (Some v) values some enough is le =
     end_between b h.body end v.content_length le enough (same_Some (end_behind b h.body v.content_length) end there)
 
 -- the start line and the head lie in the datagram
-head_lies : (b : List ℕ) (h : Head) → head_of b ≡ Some h → scan.LiesIn b h
+head_lies : (b : List ℕ) (h : Head) → head_of b ≡ Some h → scan.HeadLiesIn b h
 unfolding head_of
 head_lies b h is =
     let l = bind_some (start_line b) _ h is in
     spelled_lies b h (head_takes b l.0 h l.1 l.2)
 
-start_lies : (b : List ℕ) (h : Head) (s : Start) → head_of b ≡ Some h → start_of b ≡ Some s → scan.LiesIn b h → IsStartBetween h.start.from h.start.to s
+start_lies : (b : List ℕ) (h : Head) (s : Start) → head_of b ≡ Some h → start_of b ≡ Some s → scan.HeadLiesIn b h → IsStartBetween h.start.from h.start.to s
 unfolding head_of start_of
 start_lies b h s head_is start_is lie =
     let l = bind_some (start_line b) _ h head_is in
@@ -217,7 +217,7 @@ cseq_lies : (b : List ℕ) (fields : List HeaderSpan) → All (IsField b) fields
 unfolding cseq_of
 cseq_lies b fields each c h = in_first kind.CSeq b fields cseq_at IsCSeqBetween c cseq_between each h
 
-pub lies : (b : List ℕ) (m : Message) → Reads b m → LiesIn b m
+pub lies : (b : List ℕ) (m : Message) → Reads b m → MessageLiesIn b m
 lies b m r =
     let head = head_lies b m.head r.head in
     let p = r.parts in

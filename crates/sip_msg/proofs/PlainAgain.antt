@@ -13,8 +13,8 @@ use Rattle.sip_words.specs.Spans.{span}
 use Rattle.sip_words.proofs.Pieces.{behind, part_is, Ends, word_again, number_again}
 use Rattle.sip_msg.specs.declared.plain.PlainRequest.{PlainRequest}
 use Rattle.sip_msg.specs.declared.plain.Line.{Line}
-use Rattle.sip_msg.specs.PlainReader.{exactly_at, is_uri_byte, uri_at, number_below, address_at, port_at, branch_at, request_line_at, line_to, sent_by_at, branch_param_at, via_line, from_line, to_line, call_id_line, cseq_line, rest_end, plain_at}
-use Rattle.sip_msg.specs.PlainForm.{IsUri, IsBelow, IsAddress, IsPort, IsSentBy, IsBranch, Parts, ArePlain, IsPlainRequest, crlf, request_line, via, from, to, call_id, cseq, last_lines, spelled}
+use Rattle.sip_msg.specs.PlainReader.{exactly_at, is_uri_byte, plain_uri_at, number_below, plain_address_at, plain_port_at, branch_at, request_line_at, line_to, sent_by_at, branch_param_at, via_line, from_line, to_line, call_id_line, cseq_line, rest_end, plain_at}
+use Rattle.sip_msg.specs.PlainForm.{IsPlainUri, IsBelow, IsPlainAddress, IsPlainPort, IsSentBy, IsPlainBranch, Parts, ArePlain, IsPlainRequest, crlf, request_line, via, from, to, call_id, cseq, last_lines, spelled}
 
 assoc3 : (a b c r : List ℕ) → (a ++ (b ++ c)) ++ r ≡ a ++ (b ++ (c ++ r))
 assoc3 a b c r = append_assoc a (b ++ c) r ∙ ap (λ x. a ++ x) (append_assoc b c r)
@@ -28,7 +28,7 @@ assoc5 a b c d e r = append_assoc a (b ++ (c ++ (d ++ e))) r ∙ ap (λ x. a ++ 
 assoc7 : (a b c d e f g r : List ℕ) → (a ++ (b ++ (c ++ (d ++ (e ++ (f ++ g)))))) ++ r ≡ a ++ (b ++ (c ++ (d ++ (e ++ (f ++ (g ++ r))))))
 assoc7 a b c d e f g r = append_assoc a (b ++ (c ++ (d ++ (e ++ (f ++ g))))) r ∙ ap (λ x. a ++ x) (append_assoc b (c ++ (d ++ (e ++ (f ++ g)))) r ∙ ap (λ x. b ++ x) (assoc5 c d e f g r))
 
-exactly_again : (word text : List ℕ) (i : ℕ) (rest : List ℕ) → drop i text ≡ word ++ rest → exactly_at word text i ≡ Some (i + length word)
+pub exactly_again : (word text : List ℕ) (i : ℕ) (rest : List ℕ) → drop i text ≡ word ++ rest → exactly_at word text i ≡ Some (i + length word)
 unfolding exactly_at
 exactly_again word text i rest h = rw (part_is text i word rest h, (bytes_eq-Decides word word).1 refl) refl
 
@@ -52,9 +52,9 @@ all_of : (class : Class) → ((b : ℕ) → is_uri_byte b ≡ true → has class
 all_of class f [] h = tt
 all_of class f (b ∷ w) h = let parts = and_parts (is_uri_byte b) (list_all is_uri_byte w) h in (f b parts.0, all_of class f w parts.1)
 
-uri_again : (class : Class) → ((b : ℕ) → is_uri_byte b ≡ true → has class b ≡ true) → (text : List ℕ) (i : ℕ) (w rest : List ℕ) → drop i text ≡ w ++ rest → IsUri w
-    → Ends class rest → uri_at class text i ≡ Some (i + length w)
-unfolding uri_at
+uri_again : (class : Class) → ((b : ℕ) → is_uri_byte b ≡ true → has class b ≡ true) → (text : List ℕ) (i : ℕ) (w rest : List ℕ) → drop i text ≡ w ++ rest → IsPlainUri w
+    → Ends class rest → plain_uri_at class text i ≡ Some (i + length w)
+unfolding plain_uri_at
 uri_again class f text i w rest h is ends =
     let front : drop i text ≡ codes "sip:" ++ (is.name ++ rest) = h ∙ ap (λ x. x ++ rest) is.spelled ∙ append_assoc (codes "sip:") is.name rest in
     let later = behind text i (codes "sip:") (is.name ++ rest) front in
@@ -71,15 +71,15 @@ below_again most limit text i w rest h is ends =
     let low : nat_lt (digits_value 10 w) limit ≡ true = lt-ltb _ _ is.low in
     rw (number_again most text i w rest h is.digits ends is.few, low) refl
 
-port_again : (text : List ℕ) (i : ℕ) (w rest : List ℕ) → drop i text ≡ w ++ rest → IsPort w → Ends Digit rest → port_at text i ≡ Some (i + length w)
-unfolding port_at
+port_again : (text : List ℕ) (i : ℕ) (w rest : List ℕ) → drop i text ≡ w ++ rest → IsPlainPort w → Ends Digit rest → plain_port_at text i ≡ Some (i + length w)
+unfolding plain_port_at
 port_again text i w rest h is ends =
     let low : nat_lt (digits_value 10 w) 65536 ≡ true = lt-ltb _ _ is.below.low in
     let above : nat_lt 0 (digits_value 10 w) ≡ true = lt-ltb _ _ is.above in
     rw (number_again 5 text i w rest h is.below.digits ends is.below.few, above, low) refl
 
-address_again : (text : List ℕ) (i : ℕ) (w rest : List ℕ) → drop i text ≡ w ++ rest → IsAddress w → Ends Digit rest → address_at text i ≡ Some (i + length w)
-unfolding address_at has
+address_again : (text : List ℕ) (i : ℕ) (w rest : List ℕ) → drop i text ≡ w ++ rest → IsPlainAddress w → Ends Digit rest → plain_address_at text i ≡ Some (i + length w)
+unfolding plain_address_at has
 address_again text i w rest h is ends =
     let dot = codes "." in
     let f : drop i text ≡ is.a ++ (dot ++ (is.b ++ (dot ++ (is.c ++ (dot ++ (is.d ++ rest)))))) =
@@ -131,7 +131,7 @@ sent_by_again text i w rest h is ends =
       ends_at,
     ) refl
 
-branch_again : (text : List ℕ) (i : ℕ) (w rest : List ℕ) → drop i text ≡ w ++ rest → IsBranch w → Ends Token rest → branch_at text i ≡ Some (i + length w)
+branch_again : (text : List ℕ) (i : ℕ) (w rest : List ℕ) → drop i text ≡ w ++ rest → IsPlainBranch w → Ends Token rest → branch_at text i ≡ Some (i + length w)
 unfolding branch_at
 branch_again text i w rest h is ends = rw (word_again Token text i w rest h is.token ends, part_is text i w rest h, is.cookie) refl
 

@@ -19,8 +19,8 @@ use Rattle.sip_words.proofs.Takes.{Takes, then, takes, word_takes, number_takes,
 use Rattle.sip_msg.specs.declared.plain.PlainRequest.{PlainRequest}
 use Rattle.sip_msg.specs.declared.plain.Line.{Line}
 use Rattle.sip_msg.specs.declared.plain.ViaLine.{ViaLine}
-use Rattle.sip_msg.specs.PlainReader.{exactly_at, is_uri_byte, uri_at, number_below, address_at, port_at, branch_at, request_line_at, line_to, sent_by_at, branch_param_at, via_line, from_line, to_line, call_id_line, cseq_line, rest_end, parts, plain_at}
-use Rattle.sip_msg.specs.PlainForm.{IsUri, IsBelow, IsAddress, IsPort, IsSentBy, IsBranch, Parts, ArePlain, IsPlainRequest, crlf, request_line, via, from, to, call_id, cseq, last_lines, spelled, places}
+use Rattle.sip_msg.specs.PlainReader.{exactly_at, is_uri_byte, plain_uri_at, number_below, plain_address_at, plain_port_at, branch_at, request_line_at, line_to, sent_by_at, branch_param_at, via_line, from_line, to_line, call_id_line, cseq_line, rest_end, parts, plain_at}
+use Rattle.sip_msg.specs.PlainForm.{IsPlainUri, IsBelow, IsPlainAddress, IsPlainPort, IsSentBy, IsPlainBranch, Parts, ArePlain, IsPlainRequest, crlf, request_line, via, from, to, call_id, cseq, last_lines, spelled, places}
 
 pub exactly_takes : (word text : List ℕ) (i j : ℕ) → exactly_at word text i ≡ Some j → Takes text i j word
 unfolding exactly_at
@@ -39,8 +39,8 @@ pub record Piece (P : List ℕ → Type 0) (text : List ℕ) (i j : ℕ) : Type 
   pub taken : Takes text i j word
   pub is : P word
 
-uri_takes : (class : Class) (text : List ℕ) (i j : ℕ) → uri_at class text i ≡ Some j → Piece IsUri text i j
-unfolding uri_at
+uri_takes : (class : Class) (text : List ℕ) (i j : ℕ) → plain_uri_at class text i ≡ Some j → Piece IsPlainUri text i j
+unfolding plain_uri_at
 uri_takes class text i j h =
     let a = bind_some (exactly_at (codes "sip:") text i) _ j h in
     let b = bind_some (word_end class text a.0) _ j a.2 in
@@ -65,8 +65,8 @@ below_takes most limit text i j h =
       is = record { digits = w.2; few = w.3; low = subst (λ n. n < limit) w.4 low };
     }
 
-port_takes : (text : List ℕ) (i j : ℕ) → port_at text i ≡ Some j → Piece IsPort text i j
-unfolding port_at
+port_takes : (text : List ℕ) (i j : ℕ) → plain_port_at text i ≡ Some j → Piece IsPlainPort text i j
+unfolding plain_port_at
 port_takes text i j h =
     let a = bind_some (number_at 5 text i) _ j h in
     let c = cond_some (nat_lt 0 a.0.0 && nat_lt a.0.0 65536) a.0.1 j a.2 in
@@ -82,8 +82,8 @@ port_takes text i j h =
       };
     }
 
-address_takes : (text : List ℕ) (i j : ℕ) → address_at text i ≡ Some j → Piece IsAddress text i j
-unfolding address_at
+address_takes : (text : List ℕ) (i j : ℕ) → plain_address_at text i ≡ Some j → Piece IsPlainAddress text i j
+unfolding plain_address_at
 address_takes text i j h =
     let a = bind_some (number_below 3 256 text i) _ j h in
     let a' = bind_some (exactly_at (codes ".") text a.0) _ j a.2 in
@@ -105,7 +105,7 @@ address_takes text i j h =
 sent_by_takes : (text : List ℕ) (i j : ℕ) → sent_by_at text i ≡ Some j → Piece IsSentBy text i j
 unfolding sent_by_at
 sent_by_takes text i j h =
-    let a = bind_some (address_at text i) _ j h in
+    let a = bind_some (plain_address_at text i) _ j h in
     let b = bind_some (exactly_at (codes ":") text a.0) _ j a.2 in
     let wa = address_takes text i a.0 a.1 in
     let wp = port_takes text b.0 j b.2 in
@@ -115,7 +115,7 @@ sent_by_takes text i j h =
       is = record { address = wa.word; port = wp.word; spelled = refl; address_is = wa.is; port_is = wp.is };
     }
 
-branch_takes : (text : List ℕ) (i j : ℕ) → branch_at text i ≡ Some j → Piece IsBranch text i j
+branch_takes : (text : List ℕ) (i j : ℕ) → branch_at text i ≡ Some j → Piece IsPlainBranch text i j
 unfolding branch_at
 branch_takes text i j h =
     let a = bind_some (word_end Token text i) _ j h in
@@ -146,7 +146,7 @@ pub record ViaTaken (text : List ℕ) (i : ℕ) (v : ViaLine) : Type 0 where
   pub sent_by : List ℕ
   pub branch : List ℕ
   pub sent_by_is : IsSentBy sent_by
-  pub branch_is : IsBranch branch
+  pub branch_is : IsPlainBranch branch
   pub line : LineTaken (codes "Via: SIP/2.0/UDP " ++ (sent_by ++ (codes ";rport" ++ (codes ";branch=" ++ branch)))) text i v.line
   pub rport : v.rport ≡ i + length (codes "Via: SIP/2.0/UDP ") + length sent_by + length (codes ";rport")
   pub branch_from : v.branch.from ≡ v.rport + length (codes ";branch=")
@@ -156,7 +156,7 @@ record BranchTaken (text : List ℕ) (i : ℕ) (s : Span) : Type 0 where
   word : List ℕ
   front : Takes text i s.from (codes ";branch=")
   taken : Takes text s.from s.to word
-  is : IsBranch word
+  is : IsPlainBranch word
 
 branch_param_takes : (text : List ℕ) (i : ℕ) (s : Span) → branch_param_at text i ≡ Some s → BranchTaken text i s
 unfolding branch_param_at
@@ -203,7 +203,7 @@ pub record Known (P : List ℕ → Type 0) (shape : List ℕ → List ℕ) (text
 pub record FromTaken (text : List ℕ) (i : ℕ) (l : Line) : Type 0 where
   pub uri : List ℕ
   pub tag : List ℕ
-  pub uri_is : IsUri uri
+  pub uri_is : IsPlainUri uri
   pub tag_is : IsWord Value tag
   pub line : LineTaken (codes "From: <" ++ (uri ++ (codes ">;tag=" ++ tag))) text i l
 
@@ -211,7 +211,7 @@ from_takes : (text : List ℕ) (i : ℕ) (l : Line) → from_line text i ≡ Som
 unfolding from_line
 from_takes text i l h =
     let a = bind_some (exactly_at (codes "From: <") text i) _ l h in
-    let b = bind_some (uri_at InBrackets text a.0) _ l a.2 in
+    let b = bind_some (plain_uri_at InBrackets text a.0) _ l a.2 in
     let c = bind_some (exactly_at (codes ">;tag=") text b.0) _ l b.2 in
     let d = bind_some (word_end Value text c.0) _ l c.2 in
     let front = exactly_takes (codes "From: <") text i a.0 a.1 in
@@ -221,11 +221,11 @@ from_takes text i l h =
     let whole = then front (then wu.taken (then tag wt.1)) in
     record { uri = wu.word; tag = wt.0; uri_is = wu.is; tag_is = wt.2; line = line_takes _ text i d.0 l d.2 whole }
 
-to_takes : (text : List ℕ) (i : ℕ) (l : Line) → to_line text i ≡ Some l → Known IsUri (λ w. codes "To: <" ++ (w ++ codes ">")) text i l
+to_takes : (text : List ℕ) (i : ℕ) (l : Line) → to_line text i ≡ Some l → Known IsPlainUri (λ w. codes "To: <" ++ (w ++ codes ">")) text i l
 unfolding to_line
 to_takes text i l h =
     let a = bind_some (exactly_at (codes "To: <") text i) _ l h in
-    let b = bind_some (uri_at InBrackets text a.0) _ l a.2 in
+    let b = bind_some (plain_uri_at InBrackets text a.0) _ l a.2 in
     let c = bind_some (exactly_at (codes ">") text b.0) _ l b.2 in
     let front = exactly_takes (codes "To: <") text i a.0 a.1 in
     let w = uri_takes InBrackets text a.0 b.0 b.1 in
@@ -270,14 +270,14 @@ rest_takes text i j h =
 
 record FirstTaken (text : List ℕ) (j : ℕ) : Type 0 where
   uri : List ℕ
-  is : IsUri uri
+  is : IsPlainUri uri
   taken : Takes text 0 j (codes "OPTIONS " ++ (uri ++ codes " SIP/2.0\r\n"))
 
 first_takes : (text : List ℕ) (j : ℕ) → request_line_at text ≡ Some j → FirstTaken text j
 unfolding request_line_at
 first_takes text j h =
     let a = bind_some (exactly_at (codes "OPTIONS ") text 0) _ j h in
-    let b = bind_some (uri_at Visible text a.0) _ j a.2 in
+    let b = bind_some (plain_uri_at Visible text a.0) _ j a.2 in
     let front = exactly_takes (codes "OPTIONS ") text 0 a.0 a.1 in
     let w = uri_takes Visible text a.0 b.0 b.1 in
     let back = exactly_takes (codes " SIP/2.0\r\n") text b.0 j b.2 in

@@ -16,11 +16,11 @@ use Rattle.sip_msg.specs.Start.{start_at, start_of}
 use Rattle.sip_msg.specs.Fields.{is_missing, is_repeated}
 use Rattle.sip_msg.specs.Start.{IsStartBetween}
 use Rattle.sip_msg.specs.StartGrammar.{IsStartAt}
-use Rattle.sip_msg.specs.Places.{PartsLie, LiesIn}
+use Rattle.sip_msg.specs.Places.{PartsLie, MessageLiesIn}
 use Rattle.sip_msg.specs.Values.{values_of}
 use Rattle.sip_scan.specs.Head as scan
 use Rattle.sip_msg.proofs.Complete.{start_stands}
-use Rattle.sip_msg.specs.Table.{head_of, is_above, first_row, fault_of, later_rows, HasParts, Reads}
+use Rattle.sip_msg.specs.Table.{head_of, is_above, first_row, fault_of, later_rows, HasMessageParts, Reads}
 
 pub too_long : (b : List ℕ) → 8192 < length b → fault_of b ≡ Some TooLong
 unfolding fault_of
@@ -133,7 +133,7 @@ short_body b start h v m r some t = rw (m, r, some, t) refl
 pub no_later : (b : List ℕ) (start : Start) (h : Head) (v : Values) → is_missing h.fields.items ≡ false → is_repeated h.fields.items ≡ false → values_of b start h.fields.items ≡ Some v → is_above (length b - h.body) v.content_length ≡ false → first_row (later_rows b start h) ≡ None
 no_later b start h v m r some f = rw (m, r, some, f) refl
 
-pub message_found : {U : Type 0} (b : List ℕ) (line : Span) (start : Start) (h : Head) (m : Message) (r : Result U MsgFault) → Begins b line start → scanned b ≡ Ok h → IfOk r (λ _. first_row (later_rows b start h) ≡ None) → IfOk r (λ _. m.head ≡ h) → IfOk r (λ _. m.start ≡ start) → IfOk r (λ _. HasParts b m) → IfOk r (λ _. Reads b m)
+pub message_found : {U : Type 0} (b : List ℕ) (line : Span) (start : Start) (h : Head) (m : Message) (r : Result U MsgFault) → Begins b line start → scanned b ≡ Ok h → IfOk r (λ _. first_row (later_rows b start h) ≡ None) → IfOk r (λ _. m.head ≡ h) → IfOk r (λ _. m.start ≡ start) → IfOk r (λ _. HasMessageParts b m) → IfOk r (λ _. Reads b m)
 message_found b line start h m (Err f) is ok none head begun parts = tt
 message_found b line start h m (Ok u) is ok none head begun parts = record {
   no_fault = later b line start h is ok ∙ none;
@@ -146,12 +146,12 @@ pub fault_found : {U : Type 0} (b : List ℕ) (line : Span) (start : Start) (h :
 fault_found b line start h (Ok u) is ok fault = tt
 fault_found b line start h (Err f) is ok fault = later b line start h is ok ∙ fault
 
-pub message_lies : {U : Type 0} (b : List ℕ) (line : Span) (start : Start) (h : Head) (m : Message) (r : Result U MsgFault) → Begins b line start → scanned b ≡ Ok h → scan.LiesIn b h → IsStartBetween line.from line.to start → IfOk r (λ _. m.head ≡ h) → IfOk r (λ _. m.start ≡ start) → IfOk r (λ _. PartsLie b m) → IfOk r (λ _. LiesIn b m)
+pub message_lies : {U : Type 0} (b : List ℕ) (line : Span) (start : Start) (h : Head) (m : Message) (r : Result U MsgFault) → Begins b line start → scanned b ≡ Ok h → scan.HeadLiesIn b h → IsStartBetween line.from line.to start → IfOk r (λ _. m.head ≡ h) → IfOk r (λ _. m.start ≡ start) → IfOk r (λ _. PartsLie b m) → IfOk r (λ _. MessageLiesIn b m)
 message_lies b line start h m (Err f) is ok head_lies between head begun parts = tt
 message_lies b line start h m (Ok u) is ok head_lies between head begun parts =
     let stands : line ≡ m.head.start = start_stands b line h (sym (head_is b line is.line_is) ∙ is_head b line start h is ok) ∙ ap (λ (x : Head). x.start) (sym head) in
     record {
-      head = subst (λ (x : Head). scan.LiesIn b x) (sym head) head_lies;
+      head = subst (λ (x : Head). scan.HeadLiesIn b x) (sym head) head_lies;
       start = subst (λ (x : Start). IsStartBetween m.head.start.from m.head.start.to x) (sym begun) (subst (λ (l : Span). IsStartBetween l.from l.to start) stands between);
       parts = parts;
     }

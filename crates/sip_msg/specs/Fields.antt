@@ -2,7 +2,7 @@
 use Rattle.std.specs.Prelude.{◌≡◌, ℕ, ◌==◌, ◌<◌, Bool, cond, List, Option, None, nat_lt, slice_get, slice_index}
 use Rattle.std.specs.List.{find, count_by}
 use Rattle.sip_words.specs.Bytes.{◌or◌}
-use Rattle.sip_scan.specs.Field.{kind_number, is_same_kind}
+use Rattle.sip_scan.specs.Field.{field_kind_number, is_same_kind}
 use Rattle.sip_scan.specs.declared.field.HeaderSpan.{HeaderSpan}
 use Rattle.sip_scan.specs.declared.field.Kind.{Kind}
 use Rattle.sip_scan.specs.declared.field.Kind.TheVariants as kind
@@ -20,10 +20,10 @@ count k fields = count_by (is_of k) fields
 
 -- the same of the kind with this number
 abbrev pub first_of : ℕ → List HeaderSpan → Option HeaderSpan
-first_of n fields = find (λ f. n == kind_number f.kind) fields
+first_of n fields = find (λ f. n == field_kind_number f.kind) fields
 
 abbrev pub count_of : ℕ → List HeaderSpan → ℕ
-count_of n fields = count_by (λ f. n == kind_number f.kind) fields
+count_of n fields = count_by (λ f. n == field_kind_number f.kind) fields
 
 -- by the numbers of the kinds: how many of these fields there are, and the place of the first where there is one
 pub record IsTally (fields : List HeaderSpan) (firsts counts : List ℕ) : Type 0 where

@@ -37,14 +37,14 @@ pub record PartsLie (b : List ℕ) (m : Message) : Type 0 where
   pub end_high : m.end ≤ length b
 
 -- where a message's parts lie: its head, with the start line's parts in the start line, and its values
-pub record LiesIn (b : List ℕ) (m : Message) : Type 0 where
-  pub head : scan.LiesIn b m.head
+pub record MessageLiesIn (b : List ℕ) (m : Message) : Type 0 where
+  pub head : scan.HeadLiesIn b m.head
   pub start : IsStartBetween m.head.start.from m.head.start.to m.start
   pub parts : PartsLie b m
 
 -- where a basis's parts lie in the bytes that have it
 pub record BasisLiesIn (front : List ℕ) (basis : Basis) : Type 0 where
-  pub head : scan.LiesIn front basis.head
+  pub head : scan.HeadLiesIn front basis.head
   pub via : InFirst kind.Via basis.head.fields.items (λ i j. IsViaBetween i j basis.via)
 
 -- a Via stands, once stand From, To, Call-ID and CSeq, and at most once Max-Forwards and Content-Length

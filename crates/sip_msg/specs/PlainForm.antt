@@ -1,4 +1,4 @@
--- A plain request: its parts, the lines that they spell, and where the parts of its answer stand.
+-- A plain request: its parts, the lines that they spell, and where the parts stand that its response takes.
 use Rattle.std.specs.Prelude.{◌≡◌, ℕ, ◌+◌, ◌<◌, ◌≤◌, true, List, ◌++◌, length, nat_eq, codes}
 use Rattle.std.specs.List.{list_all, starts_with}
 use Rattle.std.specs.Str.Parse.{digits_value}
@@ -6,10 +6,11 @@ use Rattle.sip_words.specs.declared.bytes.Class.TheVariants.{Token, Value, Unbro
 use Rattle.sip_words.specs.Grammar.{IsWord}
 use Rattle.sip_words.specs.Spans.{span}
 use Rattle.sip_msg.specs.declared.plain.PlainRequest.{PlainRequest}
+pub use Rattle.sip_scan.specs.Grammar.{crlf}
 use Rattle.sip_msg.specs.PlainReader.{is_uri_byte}
 
 -- `sip:`, and one or more letters, digits, and @ . : -
-pub record IsUri (uri : List ℕ) : Type 0 where
+pub record IsPlainUri (uri : List ℕ) : Type 0 where
   pub name : List ℕ
   pub spelled : uri ≡ codes "sip:" ++ name
   pub some : 0 < length name
@@ -22,7 +23,7 @@ pub record IsBelow (most limit : ℕ) (word : List ℕ) : Type 0 where
   pub low : digits_value 10 word < limit
 
 -- four numbers below 256 with dots
-pub record IsAddress (word : List ℕ) : Type 0 where
+pub record IsPlainAddress (word : List ℕ) : Type 0 where
   pub a : List ℕ
   pub b : List ℕ
   pub c : List ℕ
@@ -34,7 +35,7 @@ pub record IsAddress (word : List ℕ) : Type 0 where
   pub d_is : IsBelow 3 256 d
 
 -- a number from 1 to 65,535
-pub record IsPort (word : List ℕ) : Type 0 where
+pub record IsPlainPort (word : List ℕ) : Type 0 where
   pub below : IsBelow 5 65536 word
   pub above : 0 < digits_value 10 word
 
@@ -43,11 +44,11 @@ pub record IsSentBy (word : List ℕ) : Type 0 where
   pub address : List ℕ
   pub port : List ℕ
   pub spelled : word ≡ address ++ (codes ":" ++ port)
-  pub address_is : IsAddress address
-  pub port_is : IsPort port
+  pub address_is : IsPlainAddress address
+  pub port_is : IsPlainPort port
 
 -- a token that begins with the magic cookie (RFC 3261, section 8.1.1.7)
-pub record IsBranch (word : List ℕ) : Type 0 where
+pub record IsPlainBranch (word : List ℕ) : Type 0 where
   pub token : IsWord Token word
   pub cookie : starts_with nat_eq word (codes "z9hG4bK") ≡ true
 
@@ -64,18 +65,15 @@ pub record Parts : Type 0 where
   pub hops : List ℕ
 
 pub record ArePlain (p : Parts) : Type 0 where
-  pub uri : IsUri p.uri
+  pub uri : IsPlainUri p.uri
   pub sent_by : IsSentBy p.sent_by
-  pub branch : IsBranch p.branch
-  pub from_uri : IsUri p.from_uri
+  pub branch : IsPlainBranch p.branch
+  pub from_uri : IsPlainUri p.from_uri
   pub tag : IsWord Value p.tag
-  pub to_uri : IsUri p.to_uri
+  pub to_uri : IsPlainUri p.to_uri
   pub call_id : IsWord Unbroken p.call_id
   pub number : IsBelow 10 2147483648 p.number
   pub hops : IsBelow 3 256 p.hops
-
-abbrev pub crlf : List ℕ
-crlf = codes "\r\n"
 
 abbrev pub request_line : Parts → List ℕ
 request_line p = codes "OPTIONS " ++ (p.uri ++ codes " SIP/2.0\r\n")

@@ -4,7 +4,7 @@ use Rattle.sip_words.specs.Spans.{IsWithin}
 use Rattle.sip_msg.specs.declared.plain.PlainRequest.{PlainRequest}
 
 -- each line lies within the text, and the place behind `rport` within the line Via
-pub record LiesIn (text : List ℕ) (plain : PlainRequest) : Type 0 where
+pub record PlainLiesIn (text : List ℕ) (plain : PlainRequest) : Type 0 where
   pub via : IsWithin text plain.via
   pub rport_low : plain.via.from ≤ plain.rport
   pub rport_high : plain.rport ≤ plain.via.to

@@ -20,8 +20,8 @@ exactly_at word text i = if bytes_eq (slice_range text i (i + length word)) word
 abbrev pub is_uri_byte : ℕ → Bool
 is_uri_byte b = is_ascii_alphanumeric b || list_any (λ c. c == b) (codes "@.:-")
 
-unfoldable pub uri_at : Class → List ℕ → ℕ → Option ℕ
-uri_at class text i = do
+unfoldable pub plain_uri_at : Class → List ℕ → ℕ → Option ℕ
+plain_uri_at class text i = do
   scheme_end ← exactly_at (codes "sip:") text i
   e ← word_end class text scheme_end
   if list_all is_uri_byte (slice_range text scheme_end e) then Some e else None
@@ -31,8 +31,8 @@ number_below most limit text i = do
   n ← number_at most text i
   if nat_lt n.0 limit then Some n.1 else None
 
-unfoldable pub address_at : List ℕ → ℕ → Option ℕ
-address_at text i = do
+unfoldable pub plain_address_at : List ℕ → ℕ → Option ℕ
+plain_address_at text i = do
   a ← number_below 3 256 text i
   b' ← exactly_at (codes ".") text a
   b ← number_below 3 256 text b'
@@ -41,8 +41,8 @@ address_at text i = do
   d' ← exactly_at (codes ".") text c
   number_below 3 256 text d'
 
-unfoldable pub port_at : List ℕ → ℕ → Option ℕ
-port_at text i = do
+unfoldable pub plain_port_at : List ℕ → ℕ → Option ℕ
+plain_port_at text i = do
   n ← number_at 5 text i
   if nat_lt 0 n.0 && nat_lt n.0 65536 then Some n.1 else None
 
@@ -54,7 +54,7 @@ branch_at text i = do
 unfoldable pub request_line_at : List ℕ → Option ℕ
 request_line_at text = do
   uri ← exactly_at (codes "OPTIONS ") text 0
-  uri_end ← uri_at Visible text uri
+  uri_end ← plain_uri_at Visible text uri
   exactly_at (codes " SIP/2.0\r\n") text uri_end
 
 -- the line from i up to a CRLF at e
@@ -65,9 +65,9 @@ line_to text i e = do
 
 unfoldable pub sent_by_at : List ℕ → ℕ → Option ℕ
 sent_by_at text i = do
-  address_end ← address_at text i
+  address_end ← plain_address_at text i
   port ← exactly_at (codes ":") text address_end
-  port_at text port
+  plain_port_at text port
 
 unfoldable pub branch_param_at : List ℕ → ℕ → Option Span
 branch_param_at text i = do
@@ -87,7 +87,7 @@ via_line text i = do
 unfoldable pub from_line : List ℕ → ℕ → Option Line
 from_line text i = do
   uri ← exactly_at (codes "From: <") text i
-  uri_end ← uri_at InBrackets text uri
+  uri_end ← plain_uri_at InBrackets text uri
   tag ← exactly_at (codes ">;tag=") text uri_end
   e ← word_end Value text tag
   line_to text i e
@@ -95,7 +95,7 @@ from_line text i = do
 unfoldable pub to_line : List ℕ → ℕ → Option Line
 to_line text i = do
   uri ← exactly_at (codes "To: <") text i
-  uri_end ← uri_at InBrackets text uri
+  uri_end ← plain_uri_at InBrackets text uri
   e ← exactly_at (codes ">") text uri_end
   line_to text i e
 

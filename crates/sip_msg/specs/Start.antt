@@ -1,5 +1,6 @@
 -- Start lines (RFC 3261, sections 7.1, 7.2 and 25.1), as functions of the bytes up to the line's end and the place where it begins.
 use Rattle.std.specs.Prelude.{ℕ, ◌+◌, ◌==◌, List, length, take, Option, Some, None, nat_lt, if◌then◌else◌, codes}
+use Rattle.sip_words.specs.ByteNames.{SP}
 use Rattle.sip_words.specs.declared.Span.{Span}
 use Rattle.sip_words.specs.declared.bytes.Class.TheVariants.{Token, Visible}
 use Rattle.sip_words.specs.Bytes.{◌or◌}
@@ -12,7 +13,7 @@ use Rattle.sip_msg.specs.declared.start.Start.TheVariants.{Request, Status}
 
 -- the place behind a SP
 abbrev pub behind_space : List ℕ → ℕ → Option ℕ
-behind_space text i = if stands 32 text i then Some (i + 1) else None
+behind_space text i = if stands SP text i then Some (i + 1) else None
 
 -- Method SP Request-URI SP SIP/2.0
 unfoldable pub request_at : List ℕ → ℕ → Option Start
@@ -26,7 +27,7 @@ request_at text i = do
 
 -- behind a code: the end of the line, or SP and the reason up to the end
 abbrev pub reason_at : List ℕ → ℕ → Option Span
-reason_at text i = if i == length text then Some (span i i) else if stands 32 text i then Some (span (i + 1) (length text)) else None
+reason_at text i = if i == length text then Some (span i i) else if stands SP text i then Some (span (i + 1) (length text)) else None
 
 -- SIP/2.0 SP Status-Code, and SP Reason-Phrase, which may be left out; the code is 100 to 699
 unfoldable pub status_at : List ℕ → ℕ → Option Start

@@ -2,6 +2,7 @@
 use Rattle.std.specs.Prelude.{◌≡◌, ℕ, ◌+◌, ◌≤◌, true, List, [], ◌∷◌, ◌++◌, length, drop, Option, Some, None, codes}
 use Rattle.std.specs.Str.{str_eq_ignore_ascii_case}
 use Rattle.std.specs.Str.Parse.{digits_value}
+use Rattle.sip_words.specs.ByteNames.{SP}
 use Rattle.sip_words.specs.declared.Span.{Span}
 use Rattle.sip_words.specs.declared.bytes.Class.TheVariants.{Token, Visible, Digit}
 use Rattle.sip_words.specs.Grammar.{IsWord}
@@ -16,11 +17,11 @@ pub data LineTree : Type 0 where
 
 abbrev pub reason : Option (List ℕ) → List ℕ
 reason None = []
-reason (Some w) = 32 ∷ w
+reason (Some w) = SP ∷ w
 
 abbrev pub line : LineTree → List ℕ
-line (RequestLine method uri version) = method ++ (32 ∷ (uri ++ (32 ∷ version)))
-line (StatusLine version code tail) = version ++ (32 ∷ (code ++ reason tail))
+line (RequestLine method uri version) = method ++ (SP ∷ (uri ++ (SP ∷ version)))
+line (StatusLine version code tail) = version ++ (SP ∷ (code ++ reason tail))
 
 -- SIP/2.0, in any case
 abbrev pub IsVersion : List ℕ → Type 0

@@ -88,7 +88,7 @@ abbrev pub end_of : List ℕ → Head → Option ℕ
 end_of b h = option_map (end_behind b h.body) (content_length_of b h.fields.items)
 
 -- the parts of a message behind its head, each by the grammar and at its place
-pub record HasParts (b : List ℕ) (m : Message) : Type 0 where
+pub record HasMessageParts (b : List ℕ) (m : Message) : Type 0 where
   pub via : via_of b m.head.fields.items ≡ Some m.via
   pub from : name_addr_of kind.From b m.head.fields.items ≡ Some m.from
   pub to : name_addr_of kind.To b m.head.fields.items ≡ Some m.to
@@ -102,4 +102,4 @@ pub record Reads (b : List ℕ) (m : Message) : Type 0 where
   pub no_fault : fault_of b ≡ None
   pub head : head_of b ≡ Some m.head
   pub start : start_of b ≡ Some m.start
-  pub parts : HasParts b m
+  pub parts : HasMessageParts b m

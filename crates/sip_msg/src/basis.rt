@@ -1,9 +1,10 @@
+//! What a response to a malformed request rests on.
 ghost use Rattle.std.specs.Prelude.{◌≡◌, ◌≤◌, ◌<◌, IfSome, codes, length, take};
 ghost use Rattle.std.specs.Str.{bytes_eq};
 ghost use Rattle.sip_words.specs.Spans.{IsWithin};
 ghost use Rattle.sip_words.specs.Words.{is_the};
 ghost use Rattle.sip_msg.specs.Places.{BasisLiesIn};
-ghost use Rattle.sip_msg.specs.Basis.{version_end, version_behind, uri_behind, first_from, answerable_at, basis_in, basis_of};
+ghost use Rattle.sip_msg.specs.Basis.{version_end, version_at_space, uri_at_space, first_from, answerable_at, basis_in, basis_of};
 
 use crate::Span;
 use crate::fields::Kinds;
@@ -11,10 +12,9 @@ use crate::message::LONGEST;
 use crate::values::via_of;
 use sip_fields::Via;
 use sip_scan::{Head, scan, start_line};
-use sip_words::Class;
-use sip_words::words::{stands, word_at, word_end};
+use sip_words::{Class, stands, word_at, word_end};
 
-/// What an answer to a malformed request rests on.
+/// What a response to a malformed request rests on.
 #[derive(Debug, Drop)]
 pub struct Basis {
     /// The head of the first 8,192 bytes.
@@ -52,19 +52,19 @@ fn is_end(text: &[u8], end: Option<usize>) -> bool
 }
 
 /// Whether a SP stands here, and a version is the rest of the line behind it.
-#[tactic(auto, unfolding(crate::specs::Basis::version_behind))]
-fn version_behind(text: &[u8], at: usize) -> bool
+#[tactic(auto, unfolding(crate::specs::Basis::version_at_space))]
+fn version_at_space(text: &[u8], at: usize) -> bool
     requires { at < length text.now }
-    ensures { result ≡ version_behind text.now at }
+    ensures { result ≡ version_at_space text.now at }
 {
     stands(text, at, b' ') && is_end(text, version_end(text, at + 1))
 }
 
 /// Whether a SP stands here, and a URI up to another SP behind it.
-#[tactic(auto, unfolding(crate::specs::Basis::uri_behind))]
-fn uri_behind(text: &[u8], at: usize) -> bool
+#[tactic(auto, unfolding(crate::specs::Basis::uri_at_space))]
+fn uri_at_space(text: &[u8], at: usize) -> bool
     requires { at < length text.now }
-    ensures { result ≡ uri_behind text.now at }
+    ensures { result ≡ uri_at_space text.now at }
 {
     if !stands(text, at, b' ') {
         return false;
@@ -79,10 +79,10 @@ fn uri_behind(text: &[u8], at: usize) -> bool
 #[tactic(auto, using(crate::proofs::Places::here, crate::proofs::Places::goes, crate::proofs::Places::none))]
 fn uri_from(text: &[u8], from: usize) -> Option<usize>
     requires { from ≤ length text.now }
-    ensures { result ≡ first_from (uri_behind text.now) text.now from }
+    ensures { result ≡ first_from (uri_at_space text.now) text.now from }
 {
     for at in from..text.len() {
-        if uri_behind(text, at) {
+        if uri_at_space(text, at) {
             return Some(at);
         }
     }
@@ -93,11 +93,11 @@ fn uri_from(text: &[u8], from: usize) -> Option<usize>
 #[tactic(auto, using(crate::proofs::Places::here, crate::proofs::Places::goes, crate::proofs::Places::none))]
 fn version_from(text: &[u8], from: usize) -> Option<usize>
     requires { from ≤ length text.now }
-    ensures value { result ≡ first_from (version_behind text.now) text.now from }
+    ensures value { result ≡ first_from (version_at_space text.now) text.now from }
     ensures bound { IfSome result (λ at. at < length text.now) }
 {
     for at in from..text.len() {
-        if version_behind(text, at) {
+        if version_at_space(text, at) {
             return Some(at);
         }
     }
@@ -155,7 +155,7 @@ fn first_bytes(b: &[u8]) -> &[u8]
     if LONGEST < b.len() { &b[..LONGEST] } else { b }
 }
 
-/// What an answer to this datagram rests on, if it is malformed. None where it can't be answered: in its first 8,192
+/// What a response to this datagram rests on, if it is malformed. None where it can't be answered: in its first 8,192
 /// bytes there is no first line with a method other than ACK, a URI and a version `SIP/` digits `.` digits; or the
 /// header fields don't read; or there are 129 of them or more; or the first value of the first Via doesn't read.
 pub fn read_basis(b: &[u8]) -> Option<Basis>

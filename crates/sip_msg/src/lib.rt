@@ -2,7 +2,7 @@
 //!
 //! - [`Message::read`] tells the request or the response that a datagram is, each part as a span of the datagram, or
 //!   the first of nine faults.
-//! - [`read_basis`] tells what an answer to a malformed request rests on, where there is an answer.
+//! - [`read_basis`] tells what a response to a malformed request rests on, where there is one.
 //! - [`read_plain`] reads the plain request alone: an OPTIONS whose lines stand in one order.
 //! - [`laws`] has what follows of any message and basis that a datagram has.
 //!

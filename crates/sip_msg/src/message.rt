@@ -1,10 +1,11 @@
+//! A message: the request or the response that a datagram is (RFC 3261, sections 7 and 18.3).
 ghost use Rattle.std.specs.Prelude.{◌≡◌, ◌≤◌, ◌-◌, All, IfErr, IfNone, IfOk, IfSome, None, Ok, Some, length, take, true, false};
 ghost use Rattle.sip_scan.specs.Field.{IsField};
 ghost use Rattle.sip_scan.specs.Head.{in_room};
-ghost use Rattle.sip_msg.specs.Places.{PartsLie, LiesIn, IsComplete};
+ghost use Rattle.sip_msg.specs.Places.{PartsLie, MessageLiesIn, IsComplete};
 ghost use Rattle.sip_msg.specs.Start.{IsStartBetween};
 ghost use Rattle.sip_msg.specs.StartGrammar.{IsStartAt};
-ghost use Rattle.sip_msg.specs.Table.{fault_of, first_row, later_rows, is_above, end_behind, HasParts, Reads};
+ghost use Rattle.sip_msg.specs.Table.{fault_of, first_row, later_rows, is_above, end_behind, HasMessageParts, Reads};
 ghost use Rattle.sip_msg.specs.declared.message.Message.{Message};
 
 use crate::fields::Kinds;
@@ -18,6 +19,14 @@ use sip_scan::{Head, ScanFault, scan_behind, start_line};
 pub(crate) const LONGEST: usize = 8192;
 
 /// A request or a response, with each part as a span of its datagram.
+///
+/// ```
+/// let mut room = Message::room(); // kept for the next datagram
+/// Message::read_into(b"SIP/2.0 200 OK\r\nv: SIP/2.0/UDP h;branch=z9hG4bK1\r\nf: <sip:a@h>;tag=1\r\nt: <sip:b@h>;tag=2\r\ni: c\r\nCSeq: 1 INVITE\r\n\r\n", &mut room)?;
+/// room.start; // Status { code: 200, reason: the span of `OK` }
+/// room.via.branch; // the span of `z9hG4bK1`
+/// room.cseq.number; // 1
+/// ```
 #[derive(Debug, Drop)]
 pub struct Message {
     pub head: Head,
@@ -85,7 +94,7 @@ fn parts_into(b: &[u8], start: Start, m: &mut Message) -> Result<(), MsgFault>
     ensures none { IfOk result (λ _. first_row (later_rows b.now start m.old.head) ≡ None) }
     ensures head { IfOk result (λ _. m.new.head ≡ m.old.head) }
     ensures start { IfOk result (λ _. m.new.start ≡ start) }
-    ensures parts { IfOk result (λ _. HasParts b.now m.new) }
+    ensures parts { IfOk result (λ _. HasMessageParts b.now m.new) }
     ensures lie { IfOk result (λ _. PartsLie b.now m.new) }
     ensures complete { IfOk result (λ _. IsComplete m.new.head.fields.items) }
 {
@@ -119,7 +128,7 @@ fn message_into(b: &[u8], m: &mut Message) -> Result<(), MsgFault>
     ensures found { IfOk result (λ _. Reads b.now m.new) }
     ensures fault { IfErr result (λ f. fault_of b.now ≡ Some f) }
     ensures line { IfOk result (λ _. IsStartAt (take m.new.head.start.to b.now) m.new.head.start.from m.new.start) }
-    ensures places { IfOk result (λ _. LiesIn b.now m.new) }
+    ensures places { IfOk result (λ _. MessageLiesIn b.now m.new) }
     ensures complete { IfOk result (λ _. IsComplete m.new.head.fields.items) }
 {
     if LONGEST < b.len() {
@@ -191,7 +200,7 @@ impl Message {
         // Its start line is spelled by the grammar, each span being the place of its part.
         ensures line { IfOk result (λ _. IsStartAt (take room.new.head.start.to b.now) room.new.head.start.from room.new.start) }
         // Each span lies in the value of its field, and the message ends behind its head and within the datagram.
-        ensures places { IfOk result (λ _. LiesIn b.now room.new) }
+        ensures places { IfOk result (λ _. MessageLiesIn b.now room.new) }
         // There is a Via, and From, To, Call-ID and CSeq stand once.
         ensures complete { IfOk result (λ _. IsComplete room.new.head.fields.items) }
     {
@@ -210,7 +219,7 @@ impl Message {
         // Its start line is spelled by the grammar, each span being the place of its part.
         ensures line { IfOk result (λ m. IsStartAt (take m.head.start.to b.now) m.head.start.from m.start) }
         // Each span lies in the value of its field, and the message ends behind its head and within the datagram.
-        ensures places { IfOk result (LiesIn b.now) }
+        ensures places { IfOk result (MessageLiesIn b.now) }
         // There is a Via, and From, To, Call-ID and CSeq stand once.
         ensures complete { IfOk result (λ m. IsComplete m.head.fields.items) }
     {

@@ -1,20 +1,19 @@
+//! The plain request: an OPTIONS whose lines stand in one fixed order.
 ghost use Rattle.std.specs.Prelude.{◌≡◌, ◌≤◌, ◌<◌, length, Some, IfSome};
 ghost use Rattle.std.specs.List.{list_all};
 ghost use Rattle.sip_words.specs.Spans.{IsWithin};
 ghost use Rattle.sip_msg.specs.declared.plain.PlainRequest.{PlainRequest as PlainPlaces};
 ghost use Rattle.sip_msg.specs.PlainForm.{IsPlainRequest};
-ghost use Rattle.sip_msg.specs.PlainPlaces.{LiesIn};
-ghost use Rattle.sip_msg.specs.PlainReader.{is_uri_byte, exactly_at, uri_at, number_below, address_at, port_at, branch_at, request_line_at, line_to, sent_by_at, branch_param_at, via_line, from_line, to_line, call_id_line, cseq_line, rest_end, plain_at};
+ghost use Rattle.sip_msg.specs.PlainPlaces.{PlainLiesIn};
+ghost use Rattle.sip_msg.specs.PlainReader.{is_uri_byte, exactly_at, plain_uri_at, number_below, plain_address_at, plain_port_at, branch_at, request_line_at, line_to, sent_by_at, branch_param_at, via_line, from_line, to_line, call_id_line, cseq_line, rest_end, plain_at};
 
 use crate::Span;
-use sip_words::bytes::Class;
-use sip_words::numbers::number_at;
-use sip_words::words::word_end;
+use sip_words::{Class, number_at, port_number_at, v4_at, word_end};
 
 /// The longest plain request, in bytes.
 const LONGEST: usize = 2048;
 
-/// The parts of a plain request that its answer takes: the lines of five fields, each without its CRLF, the value of
+/// The parts of a plain request that its response takes: the lines of five fields, each without its CRLF, the value of
 /// the parameter `branch`, and the place behind the word `rport`.
 #[derive(Clone, Copy, Debug, PartialEq, Eq)]
 pub struct PlainRequest {
@@ -69,10 +68,10 @@ fn is_all_uri(bytes: &[u8]) -> bool
 
 /// The end of the plain URI at `from`: `sip:` and all the bytes of the class behind it, which are one or more and may
 /// stand in a plain URI.
-#[tactic(auto, unfolding(crate::specs::PlainReader::uri_at))]
-fn uri_at(text: &[u8], from: usize, class: Class) -> Option<usize>
+#[tactic(auto, unfolding(crate::specs::PlainReader::plain_uri_at))]
+fn plain_uri_at(text: &[u8], from: usize, class: Class) -> Option<usize>
     requires { from ≤ length text.now }
-    ensures value { result ≡ uri_at class text.now from }
+    ensures value { result ≡ plain_uri_at class text.now from }
     ensures bounds { IfSome result (λ end. (from ≤ end) × (end ≤ length text.now)) }
 {
     let scheme_end = exactly_at(text, from, b"sip:")?;
@@ -93,27 +92,23 @@ fn number_below(text: &[u8], from: usize, most: usize, limit: u64) -> Option<usi
 }
 
 /// The end of four numbers 0 to 255 with dots.
-#[tactic(auto, unfolding(crate::specs::PlainReader::address_at))]
-fn address_at(text: &[u8], from: usize) -> Option<usize>
+fn plain_address_at(text: &[u8], from: usize) -> Option<usize>
     requires { from ≤ length text.now }
-    ensures value { result ≡ address_at text.now from }
+    ensures value { result ≡ plain_address_at text.now from }
     ensures bounds { IfSome result (λ end. (from ≤ end) × (end ≤ length text.now)) }
 {
-    let end = number_below(text, from, 3, 256)?;
-    let end = number_below(text, exactly_at(text, end, b".")?, 3, 256)?;
-    let end = number_below(text, exactly_at(text, end, b".")?, 3, 256)?;
-    number_below(text, exactly_at(text, end, b".")?, 3, 256)
+    let (_, end) = v4_at(text, from)?;
+    Some(end)
 }
 
 /// The end of a port, 1 to 65535.
-#[tactic(auto, unfolding(crate::specs::PlainReader::port_at))]
-fn port_at(text: &[u8], from: usize) -> Option<usize>
+fn plain_port_at(text: &[u8], from: usize) -> Option<usize>
     requires { from ≤ length text.now }
-    ensures value { result ≡ port_at text.now from }
+    ensures value { result ≡ plain_port_at text.now from }
     ensures bounds { IfSome result (λ end. (from ≤ end) × (end ≤ length text.now)) }
 {
-    let (number, end) = number_at(text, from, 5)?;
-    (0 < number && number < 65536).then_some(end)
+    let (_, end) = port_number_at(text, from)?;
+    Some(end)
 }
 
 /// The end of a branch that begins with the cookie of RFC 3261, section 8.1.1.7.
@@ -134,7 +129,7 @@ fn request_line_at(text: &[u8]) -> Option<usize>
     ensures bounds { IfSome result (λ end. end ≤ length text.now) }
 {
     let uri = exactly_at(text, 0, b"OPTIONS ")?;
-    let uri_end = uri_at(text, uri, Class::Visible)?;
+    let uri_end = plain_uri_at(text, uri, Class::Visible)?;
     exactly_at(text, uri_end, b" SIP/2.0\r\n")
 }
 
@@ -159,9 +154,9 @@ fn sent_by_at(text: &[u8], from: usize) -> Option<usize>
     ensures value { result ≡ sent_by_at text.now from }
     ensures bounds { IfSome result (λ end. (from ≤ end) × (end ≤ length text.now)) }
 {
-    let address_end = address_at(text, from)?;
+    let address_end = plain_address_at(text, from)?;
     let port = exactly_at(text, address_end, b":")?;
-    port_at(text, port)
+    plain_port_at(text, port)
 }
 
 /// The value of the parameter `;branch=B` at `from`.
@@ -211,7 +206,7 @@ fn from_line(text: &[u8], from: usize) -> Option<Line>
     ensures field { IfSome result (λ line. IsWithin text.now line.field) }
 {
     let uri = exactly_at(text, from, b"From: <")?;
-    let uri_end = uri_at(text, uri, Class::InBrackets)?;
+    let uri_end = plain_uri_at(text, uri, Class::InBrackets)?;
     let tag = exactly_at(text, uri_end, b">;tag=")?;
     let end = word_end(text, tag, Class::Value)?;
     line_to(text, from, end)
@@ -226,7 +221,7 @@ fn to_line(text: &[u8], from: usize) -> Option<Line>
     ensures field { IfSome result (λ line. IsWithin text.now line.field) }
 {
     let uri = exactly_at(text, from, b"To: <")?;
-    let uri_end = uri_at(text, uri, Class::InBrackets)?;
+    let uri_end = plain_uri_at(text, uri, Class::InBrackets)?;
     let end = exactly_at(text, uri_end, b">")?;
     line_to(text, from, end)
 }
@@ -273,7 +268,7 @@ fn rest_end(text: &[u8], from: usize) -> Option<usize>
 #[tactic(auto, unfolding(crate::specs::PlainReader::plain_at))]
 fn plain_at(b: &[u8]) -> Option<PlainRequest>
     ensures exact { result ≡ plain_at b.now }
-    ensures places { IfSome result (LiesIn b.now) }
+    ensures places { IfSome result (PlainLiesIn b.now) }
 {
     if b.len() > LONGEST {
         return None;
@@ -307,7 +302,7 @@ pub fn read_plain(b: &[u8]) -> Option<PlainRequest>
     ensures only { (plain : PlainPlaces) → IsPlainRequest b.now plain → result ≡ Some plain }
     // The same as a function.
     ensures exact { result ≡ plain_at b.now }
-    ensures places { IfSome result (LiesIn b.now) }
+    ensures places { IfSome result (PlainLiesIn b.now) }
 {
     plain_at(b)
 }

@@ -1,4 +1,4 @@
-//! Plain requests and datagrams that are none, with answers worked out by hand.
+//! Plain requests and datagrams that are none, worked out by hand.
 use crate::{PlainRequest, Span, read_plain};
 use std::alloc::{AllocError, Global};
 use std::process::Abort;

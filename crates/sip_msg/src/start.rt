@@ -1,12 +1,11 @@
+//! Start lines (RFC 3261, sections 7.1 and 7.2).
 ghost use Rattle.std.specs.Prelude.{◌≡◌, ◌≤◌, length, take, IfSome};
 ghost use Rattle.sip_words.specs.Spans.{IsWithin};
 ghost use Rattle.sip_msg.specs.StartGrammar.{IsStartAt};
 ghost use Rattle.sip_msg.specs.Start.{behind_space, request_at, reason_at, status_at, start_at, IsStartBetween};
 
 use crate::Span;
-use sip_words::Class;
-use sip_words::numbers::number_at;
-use sip_words::words::{stands, word_at, word_end};
+use sip_words::{Class, byte_end, number_at, stands, word_at, word_end};
 
 /// A start line.
 #[derive(Clone, Copy, Debug, PartialEq, Eq)]
@@ -18,15 +17,12 @@ pub enum Start {
 }
 
 /// The place behind a SP.
+#[tactic(auto, unfolding(sip_words::specs::Words::byte_end))]
 fn behind_space(text: &[u8], from: usize) -> Option<usize>
     ensures value { result ≡ behind_space text.now from }
     ensures bounds { IfSome result (λ end. (from ≤ end) × (end ≤ length text.now)) }
 {
-    if stands(text, from, b' ') {
-        Some(from + 1)
-    } else {
-        None
-    }
+    byte_end(text, from, b' ')
 }
 
 /// The request line at `from`: a method, a URI and `SIP/2.0`, with one SP between.

@@ -654,3 +654,16 @@ fn bases(rt: HostRuntime) {
         None => assert!(rt; false),
     }
 }
+
+/// The example of [`Message`].
+#[test]
+fn a_room_is_read_into(rt: HostRuntime) {
+    let mut room = Message::room();
+    let b =
+        b"SIP/2.0 200 OK\r\nv: SIP/2.0/UDP h;branch=z9hG4bK1\r\nf: <sip:a@h>;tag=1\r\nt: <sip:b@h>;tag=2\r\ni: c\r\nCSeq: 1 INVITE\r\n\r\n";
+    assert!(rt; Message::read_into(b, &mut room).is_ok());
+    assert!(rt; matches!(room.start, Start::Status { code: 200, .. }));
+    let branch = room.via.branch.and_then(|at| b.get(at.from..at.to));
+    assert!(rt; branch == Some(b"z9hG4bK1".as_slice()));
+    assert_eq!(rt; room.cseq.number, 1);
+}

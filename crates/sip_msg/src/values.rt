@@ -15,9 +15,7 @@ use crate::fields::Kinds;
 use crate::{Span, Start};
 use sip_fields::{CSeq, NameAddr, Via, read_cseq, read_name_addr, read_route, read_via};
 use sip_scan::{HeaderSpan, Kind};
-use sip_words::Class;
-use sip_words::numbers::number_at;
-use sip_words::words::{lws_end, word_end};
+use sip_words::{Class, lws_end, number_at, word_end};
 
 /// The values that a message has of its fields.
 #[derive(Clone, Copy)]

@@ -13,7 +13,7 @@ use Rattle.sip_words.proofs.Takes.{Takes, then, takes, word_takes, stands_takes}
 use Rattle.sip_words.proofs.ManyLaws.{many_repeats}
 use Rattle.sip_scan.specs.declared.field.HeaderSpan.{HeaderSpan}
 use Rattle.sip_scan.specs.Lines.{is_plain, plain_end, wsp_end, is_crlf, line_end, continues, line_item, next_line, lines_at, folded_end}
-use Rattle.sip_scan.specs.Field.{field_at, item, next_field}
+use Rattle.sip_scan.specs.Field.{field_at, field_item, next_field}
 use Rattle.sip_scan.specs.Grammar.{crlf, IsLine, IsContinuation, lines, FieldTree, field, IsFieldTree, fields}
 use Rattle.sip_scan.proofs.Turns.{line_is}
 
@@ -143,11 +143,11 @@ field_step : (text : List ℕ) (i k : ℕ) (f : HeaderSpan) → next_field text 
 unfolding next_field
 field_step text i k f h = by_test (is_crlf text i) h
   where
-    by_field : (o : Option HeaderSpan) → field_at text i ≡ o → item o ≡ Item f k → (field_at text i ≡ Some f) × (k ≡ f.whole.to)
+    by_field : (o : Option HeaderSpan) → field_at text i ≡ o → field_item o ≡ Item f k → (field_at text i ≡ Some f) × (k ≡ f.whole.to)
     by_field None e h = absurd (cc)
     by_field (Some g) e h = let same : g ≡ f = cc in let to : g.whole.to ≡ k = cc in (e ∙ ap (λ (x : HeaderSpan). Some x) same, sym to ∙ ap (λ (x : HeaderSpan). x.whole.to) same)
 
-    by_test : (b : Bool) → cond b Done (item (field_at text i)) ≡ Item f k → (field_at text i ≡ Some f) × (k ≡ f.whole.to)
+    by_test : (b : Bool) → cond b Done (field_item (field_at text i)) ≡ Item f k → (field_at text i ≡ Some f) × (k ≡ f.whole.to)
     by_test true h = absurd (cc)
     by_test false h = by_field (field_at text i) refl h
 
@@ -155,11 +155,11 @@ fields_done : (text : List ℕ) (i : ℕ) → next_field text i ≡ Done → is_
 unfolding next_field
 fields_done text i h = by_test (is_crlf text i) refl h
   where
-    by_field : (o : Option HeaderSpan) → item o ≡ Done → is_crlf text i ≡ true
+    by_field : (o : Option HeaderSpan) → field_item o ≡ Done → is_crlf text i ≡ true
     by_field None h = absurd (cc)
     by_field (Some g) h = absurd (cc)
 
-    by_test : (b : Bool) → is_crlf text i ≡ b → cond b Done (item (field_at text i)) ≡ Done → is_crlf text i ≡ true
+    by_test : (b : Bool) → is_crlf text i ≡ b → cond b Done (field_item (field_at text i)) ≡ Done → is_crlf text i ≡ true
     by_test true c h = c
     by_test false c h = by_field (field_at text i) h
 

@@ -6,7 +6,7 @@ use Rattle.std.proofs.lemmas.List.Elements.{All-cons}
 use Rattle.sip_words.proofs.Pieces.{behind, within, part_is}
 use Rattle.sip_scan.specs.declared.Head.{Head}
 use Rattle.sip_scan.specs.Field.{kind_of, IsField}
-use Rattle.sip_scan.specs.Head.{LieFrom, LiesIn}
+use Rattle.sip_scan.specs.Head.{LieFrom, HeadLiesIn}
 use Rattle.sip_scan.specs.Grammar.{crlf, lines, FieldTree, field, field_place, fields, field_places, MessageTree, message, head_place}
 use Rattle.sip_scan.proofs.HeadTakes.{Spelled}
 
@@ -55,7 +55,7 @@ front_of t =
     )
 
 -- the parts of what spells a text, by their lengths
-head_lies : (text : List ℕ) (t : MessageTree) → text ≡ message t → LiesIn text (head_place t)
+head_lies : (text : List ℕ) (t : MessageTree) → text ≡ message t → HeadLiesIn text (head_place t)
 head_lies text t whole =
     let to = length t.skipped + length t.start in
     let rest = fields t.fields ++ (crlf ++ t.body) in
@@ -74,5 +74,5 @@ head_lies text t whole =
     }
 
 -- where the parts of a head that the grammar spells lie
-pub spelled_lies : (text : List ℕ) (h : Head) → Spelled text h → LiesIn text h
-spelled_lies text h is = subst (LiesIn text) (sym is.3) (head_lies text is.0 is.2)
+pub spelled_lies : (text : List ℕ) (h : Head) → Spelled text h → HeadLiesIn text h
+spelled_lies text h is = subst (HeadLiesIn text) (sym is.3) (head_lies text is.0 is.2)

@@ -2,7 +2,9 @@
 use Rattle.std.proofs.Common.{◌≡◌, ℕ, suc, ◌+◌, ◌-◌, ◌<◌, ◌≤◌, true, false, List, length, drop, get_or, refl, arith, Some, None}
 use Rattle.std.specs.List.{prefix_len}
 use Rattle.std.proofs.lemmas.List.{drop_more, drop_all}
-use Rattle.sip_words.specs.Bytes.{is_wsp}
+use Rattle.sip_words.specs.declared.bytes.Class.TheVariants.{Wsp, InLine}
+use Rattle.sip_words.specs.Bytes.{has}
+use Rattle.sip_words.specs.Words.{run_end}
 use Rattle.sip_scan.specs.Lines.{is_break, is_plain, plain_end, wsp_end, skipped, is_crlf, first_crlf}
 
 pub plain_stops : (text : List ℕ) (i : ℕ) → i < length text → is_plain (get_or text i 0) ≡ false → plain_end text i ≡ i
@@ -17,17 +19,14 @@ pub plain_all : (text : List ℕ) (i : ℕ) → length text ≤ i → plain_end 
 unfolding plain_end
 plain_all text i le = rw (drop_all i text le) (omega arith)
 
-pub wsp_stops : (text : List ℕ) (i : ℕ) → i < length text → is_wsp (get_or text i 0) ≡ false → wsp_end text i ≡ i
-unfolding wsp_end
-wsp_stops text i lt h = let e = drop_more text i 0 lt in rw (e, h) (omega arith)
+-- runs of a class
+pub plain_run : (text : List ℕ) (i : ℕ) → run_end InLine text i ≡ plain_end text i
+unfolding run_end plain_end has
+plain_run text i = refl
 
-pub wsp_goes : (text : List ℕ) (i : ℕ) → i < length text → is_wsp (get_or text i 0) ≡ true → wsp_end text (i + 1) ≡ wsp_end text i
-unfolding wsp_end
-wsp_goes text i lt h = let e = drop_more text i 0 lt in rw (e, h) (omega arith)
-
-pub wsp_all : (text : List ℕ) (i : ℕ) → length text ≤ i → wsp_end text i ≡ i
-unfolding wsp_end
-wsp_all text i le = rw (drop_all i text le) (omega arith)
+pub wsp_run : (text : List ℕ) (i : ℕ) → run_end Wsp text i ≡ wsp_end text i
+unfolding run_end wsp_end has
+wsp_run text i = refl
 
 -- the invariant of the loop over the CR and LF in front
 abbrev pub skip_from : List ℕ → ℕ → ℕ

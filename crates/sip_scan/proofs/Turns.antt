@@ -11,7 +11,7 @@ use Rattle.sip_words.proofs.Digits.{word_is}
 use Rattle.sip_words.proofs.ManyLaws.{many_repeats}
 use Rattle.sip_scan.specs.declared.field.HeaderSpan.{HeaderSpan}
 use Rattle.sip_scan.specs.Lines.{plain_end, wsp_end, is_crlf, line_end, continues, line_item, next_line, lines_at, folded_end}
-use Rattle.sip_scan.specs.Field.{field_at, item, next_field}
+use Rattle.sip_scan.specs.Field.{field_at, field_item, next_field}
 
 pub line_next : (text : List ℕ) (i e : ℕ) → continues text i ≡ true → line_end text i ≡ Some e → next_line text i ≡ Item e (e + 2)
 unfolding next_line
@@ -107,10 +107,10 @@ pub fields_advance : (text : List ℕ) → Advances (length text) (next_field te
 unfolding next_field
 fields_advance text = λ i j x h. by_test i j x (is_crlf text i) h
   where
-    by_field : (i j : ℕ) (x : HeaderSpan) (o : Option HeaderSpan) → field_at text i ≡ o → item o ≡ Item x j → (i < j) × (i < length text)
+    by_field : (i j : ℕ) (x : HeaderSpan) (o : Option HeaderSpan) → field_at text i ≡ o → field_item o ≡ Item x j → (i < j) × (i < length text)
     by_field i j x None e h = absurd (cc)
     by_field i j x (Some f) e h = let to : f.whole.to ≡ j = cc in let past = field_past text i f e in (omega (arith, past), past.1)
 
-    by_test : (i j : ℕ) (x : HeaderSpan) (b : Bool) → cond b Done (item (field_at text i)) ≡ Item x j → (i < j) × (i < length text)
+    by_test : (i j : ℕ) (x : HeaderSpan) (b : Bool) → cond b Done (field_item (field_at text i)) ≡ Item x j → (i < j) × (i < length text)
     by_test i j x true h = absurd (cc)
     by_test i j x false h = by_field i j x (field_at text i) refl h

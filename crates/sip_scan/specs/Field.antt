@@ -1,6 +1,7 @@
 -- Header fields, as functions of a text and a place in it (RFC 3261, section 7.3).
 use Rattle.std.specs.Prelude.{◌≡◌, ℕ, ◌+◌, ◌-◌, ◌≤◌, ◌==◌, Bool, List, length, Option, Some, None, if◌then◌else◌, slice_range, codes}
 use Rattle.std.specs.Str.{str_eq_ignore_ascii_case}
+use Rattle.sip_words.specs.ByteNames.{COLON}
 use Rattle.sip_words.specs.declared.bytes.Class.TheVariants.{Token}
 use Rattle.sip_words.specs.Spans.{span}
 use Rattle.sip_words.specs.Words.{◌>>=◌, word_end, stands}
@@ -41,8 +42,8 @@ kind_of name =
     if is_word (full_name name) (codes "Content-Length") then kind.ContentLength else kind.Other
 
 -- the kinds, numbered; a field of any other name is of the kind Other
-abbrev pub kind_number : Kind → ℕ
-kind_number k = elim k [
+abbrev pub field_kind_number : Kind → ℕ
+field_kind_number k = elim k [
   | kind.Via ↦ 0
   | kind.From ↦ 1
   | kind.To ↦ 2
@@ -57,26 +58,26 @@ kind_number k = elim k [
 ]
 
 abbrev pub is_same_kind : Kind → Kind → Bool
-is_same_kind a b = kind_number a == kind_number b
+is_same_kind a b = field_kind_number a == field_kind_number b
 
 -- token *(SP / HTAB) ":" value CRLF, where the value may go on in continuation lines
 unfoldable pub field_at : List ℕ → ℕ → Option HeaderSpan
 field_at text i = do
   name ← word_end Token text i
   let colon = wsp_end text name
-  if stands 58 text colon
+  if stands COLON text colon
       then (do
         end ← folded_end text (colon + 1)
         Some record { kind = kind_of (slice_range text i name); name = span i name; value = span (colon + 1) (end - 2); whole = span i end })
       else None
 
-abbrev pub item : Option HeaderSpan → Next HeaderSpan
-item None = Wrong
-item (Some f) = Item f f.whole.to
+abbrev pub field_item : Option HeaderSpan → Next HeaderSpan
+field_item None = Wrong
+field_item (Some f) = Item f f.whole.to
 
 -- the empty line ends the fields
 unfoldable pub next_field : List ℕ → ℕ → Next HeaderSpan
-next_field text i = if is_crlf text i then Done else item (field_at text i)
+next_field text i = if is_crlf text i then Done else field_item (field_at text i)
 
 -- the fields from i on, and the place of the empty line
 unfoldable pub fields_at : List ℕ → ℕ → Option (List HeaderSpan × ℕ)

@@ -1,6 +1,7 @@
 -- The grammar of a head (RFC 3261, sections 7, 7.3 and 25.1): trees, the text that each one spells, and where its parts stand.
 use Rattle.std.specs.Prelude.{◌≡◌, ℕ, ◌+◌, ◌-◌, true, List, [], ◌∷◌, ◌++◌, length}
 use Rattle.std.specs.List.{flat_map, AllByRecursion}
+use Rattle.sip_words.specs.ByteNames.{LF, CR, COLON}
 use Rattle.sip_words.specs.declared.bytes.Class.TheVariants.{Token}
 use Rattle.sip_words.specs.Bytes.{is_wsp}
 use Rattle.sip_words.specs.Grammar.{IsWord}
@@ -12,7 +13,7 @@ use Rattle.sip_scan.specs.Field.{kind_of}
 use Rattle.sip_scan.specs.Head.{head}
 
 abbrev pub crlf : List ℕ
-crlf = 13 ∷ 10 ∷ []
+crlf = CR ∷ LF ∷ []
 
 -- a line has neither NUL, nor CR, nor LF
 abbrev pub IsLine : List ℕ → Type 0
@@ -35,7 +36,7 @@ pub record FieldTree : Type 0 where
   pub more : List (List ℕ)
 
 abbrev pub field : FieldTree → List ℕ
-field t = t.name ++ (t.gap ++ (58 ∷ (t.first ++ (crlf ++ lines t.more))))
+field t = t.name ++ (t.gap ++ (COLON ∷ (t.first ++ (crlf ++ lines t.more))))
 
 pub record IsFieldTree (t : FieldTree) : Type 0 where
   pub name : IsWord Token t.name

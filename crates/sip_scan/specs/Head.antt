@@ -51,7 +51,7 @@ LieFrom i [] j = i ≡ j
 LieFrom i (f ∷ fs) j = (f.whole.from ≡ i) × LieFrom f.whole.to fs j
 
 -- where the parts of a head lie in the text
-pub record LiesIn (text : List ℕ) (h : Head) : Type 0 where
+pub record HeadLiesIn (text : List ℕ) (h : Head) : Type 0 where
   pub start : IsWithin text h.start
   pub fields : LieFrom (h.start.to + 2) h.fields.items (h.body - 2)
   pub body_low : h.start.to + 4 ≤ h.body

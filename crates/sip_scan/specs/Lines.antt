@@ -2,6 +2,7 @@
 use Rattle.std.specs.Prelude.{ℕ, zero, suc, ◌+◌, ◌-◌, ◌==◌, not, Bool, cond, List, length, drop, take, Option, Some, None, if◌then◌else◌, slice_range, codes}
 use Rattle.std.specs.List.{prefix_len, after_last}
 use Rattle.std.specs.Str.{str_eq_ignore_ascii_case}
+use Rattle.sip_words.specs.ByteNames.{HTAB, LF, CR, SP}
 use Rattle.sip_words.specs.declared.Span.{Span}
 use Rattle.sip_words.specs.Bytes.{◌or◌, ◌and◌, is_wsp}
 use Rattle.sip_words.specs.Spans.{span}
@@ -10,7 +11,7 @@ use Rattle.sip_words.specs.Many.{Next, Item, Done, Wrong, many}
 
 -- CR or LF
 abbrev pub is_break : ℕ → Bool
-is_break b = (b == 13) or (b == 10)
+is_break b = (b == CR) or (b == LF)
 
 -- a byte that may stand in a line: neither NUL, nor CR, nor LF
 abbrev pub is_plain : ℕ → Bool
@@ -28,7 +29,7 @@ unfoldable pub skipped : List ℕ → ℕ
 skipped text = prefix_len is_break text
 
 unfoldable pub is_crlf : List ℕ → ℕ → Bool
-is_crlf text i = stands 13 text i and stands 10 text (i + 1)
+is_crlf text i = stands CR text i and stands LF text (i + 1)
 
 -- where the line of plain bytes that begins at i ends, with a CRLF behind it
 unfoldable pub line_end : List ℕ → ℕ → Option ℕ
@@ -36,7 +37,7 @@ line_end text i = if is_crlf text (plain_end text i) then Some (plain_end text i
 
 -- a line that begins with SP or HTAB continues the one before it
 unfoldable pub continues : List ℕ → ℕ → Bool
-continues text i = stands 32 text i or stands 9 text i
+continues text i = stands SP text i or stands HTAB text i
 
 abbrev pub line_item : Option ℕ → Next ℕ
 line_item None = Wrong
@@ -71,7 +72,7 @@ begins_sip bytes = str_eq_ignore_ascii_case (take 4 bytes) (codes "SIP/")
 
 -- a first line of SIP: it, or what stands behind its last SP, begins with SIP/
 unfoldable pub speaks_sip : List ℕ → Bool
-speaks_sip line = begins_sip line or begins_sip (after_last (λ b. b == 32) line)
+speaks_sip line = begins_sip line or begins_sip (after_last (λ b. b == SP) line)
 
 abbrev pub line_of : List ℕ → Span → List ℕ
 line_of text s = slice_range text s.from s.to

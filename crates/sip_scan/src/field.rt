@@ -3,8 +3,7 @@ ghost use Rattle.std.specs.Prelude.{◌≡◌, ◌≤◌, ◌<◌, ◌+◌, leng
 ghost use Rattle.sip_scan.specs.Field.{full_name, kind_of, field_at, IsField};
 
 use crate::lines::{folded_end, wsp_end};
-use sip_words::words::{same_word, stands, word_end};
-use sip_words::{Class, Span};
+use sip_words::{Class, Span, same_word, stands, word_end};
 
 /// The kinds of header fields that the proxy knows.
 #[derive(Clone, Copy, Debug, Default, PartialEq, Eq)]
@@ -25,14 +24,14 @@ pub enum Kind {
 }
 
 impl Kind {
-    ghost use Rattle.sip_scan.specs.Field.{kind_number, is_same_kind};
+    ghost use Rattle.sip_scan.specs.Field.{field_kind_number, is_same_kind};
 
     /// How many kinds there are.
     pub const COUNT: usize = 11;
 
     /// The place of this kind in a table of all kinds.
     pub fn number(self) -> usize
-        ensures value { result ≡ kind_number self }
+        ensures value { result ≡ field_kind_number self }
         ensures below { result < Self.COUNT }
     {
         match self {

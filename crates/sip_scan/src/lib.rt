@@ -8,6 +8,7 @@
 //!   [`ScanFault`] lists them. [`scan`] answers the head itself, which is 7 KB that are moved.
 //! - [`scan_behind`] is the same for a caller that has the start line already.
 //! - [`start_line`] reads the start line alone, for a caller that judges it before the fields are looked at.
+//! - [`is_crlf`] and [`skipped`] are for whoever walks over the lines of a head by himself.
 //!
 //! Nothing here takes memory.
 #![tactic(auto)]
@@ -17,7 +18,7 @@ ghost use Rattle.sip_scan.specs.declared.field.HeaderSpan.{HeaderSpan};
 ghost use Rattle.sip_words.specs.Spans.{IsWithin};
 ghost use Rattle.sip_scan.specs.Lines.{start_line};
 ghost use Rattle.sip_scan.specs.Field.{fields_at, IsField};
-ghost use Rattle.sip_scan.specs.Head.{at_most_128, in_room, scanned, LiesIn, LieFrom};
+ghost use Rattle.sip_scan.specs.Head.{at_most_128, in_room, scanned, HeadLiesIn, LieFrom};
 ghost use Rattle.sip_scan.specs.Grammar.{MessageTree, message, IsMessageTree, head_place};
 
 mod field;
@@ -28,11 +29,20 @@ mod tests;
 use arrayvec::ArrayVec;
 use field::field_at;
 pub use field::{HeaderSpan, Kind, full_name, kind_of};
-pub use lines::start_line;
-use lines::{is_crlf, line_end};
+use lines::line_end;
+pub use lines::{is_crlf, skipped, start_line};
 pub use sip_words::Span;
 
 /// The head of a message.
+///
+/// ```
+/// let mut room = Head::new();
+/// scan_into(b"OPTIONS sip:a@h SIP/2.0\r\nv: SIP/2.0/UDP h\r\n\r\n", &mut room)?;
+/// room.start; // from 0 to 23
+/// room.fields[0].kind; // Via
+/// room.fields[0].value; // from 27 to 41, with the blank in front
+/// room.body; // 45
+/// ```
 #[derive(Debug, Drop)]
 pub struct Head {
     /// The start line, without its CRLF.
@@ -83,7 +93,7 @@ pub fn scan(b: &[u8]) -> Result<Head, ScanFault>
     // The same as a function, with the faults in their order.
     ensures exact { result ≡ scanned b.now }
     // The parts stand in order within the datagram.
-    ensures places { IfOk result (LiesIn b.now) }
+    ensures places { IfOk result (HeadLiesIn b.now) }
 {
     let mut head = Head::new();
     match scan_into(b, &mut head) {
@@ -104,7 +114,7 @@ pub fn scan_into(b: &[u8], head: &mut Head) -> Result<(), ScanFault>
     // The same as a function, with the faults in their order.
     ensures exact { in_room result head.new ≡ scanned b.now }
     // The parts stand in order within the datagram.
-    ensures places { IfOk result (λ _. LiesIn b.now head.new) }
+    ensures places { IfOk result (λ _. HeadLiesIn b.now head.new) }
 {
     let Some(start) = start_line(b) else {
         return Err(ScanFault::NotSip);
@@ -117,7 +127,7 @@ pub fn scan_behind(b: &[u8], start: Span, head: &mut Head) -> Result<(), ScanFau
     requires line { start_line b.now ≡ Some start }
     requires within { IsWithin b.now start }
     ensures exact { in_room result head.new ≡ scanned b.now }
-    ensures places { IfOk result (λ _. LiesIn b.now head.new) }
+    ensures places { IfOk result (λ _. HeadLiesIn b.now head.new) }
 {
     let Some(end) = line_end(b, start.from) else {
         return Err(ScanFault::BadHeader);

@@ -2,11 +2,9 @@
 ghost use Rattle.std.specs.Prelude.{◌≡◌, ◌==◌, ◌≤◌, ◌<◌, ◌+◌, ◌-◌, length, drop, IfSome, IsTrue, option_map};
 ghost use Rattle.std.specs.List.{after_last};
 ghost use Rattle.sip_words.specs.Spans.{IsWithin};
-ghost use Rattle.sip_scan.specs.Lines.{is_break, is_plain, plain_end, wsp_end, skipped, is_crlf, line_end, continues, lines_at, folded_end, first_crlf, begins_sip, speaks_sip, start_line};
+ghost use Rattle.sip_scan.specs.Lines.{is_break, plain_end, wsp_end, skipped, is_crlf, line_end, continues, lines_at, folded_end, first_crlf, begins_sip, speaks_sip, start_line};
 
-use sip_words::Span;
-use sip_words::bytes::is_wsp;
-use sip_words::words::{same_word, stands};
+use sip_words::{Class, Span, run_end, same_word, stands};
 
 /// CR or LF.
 fn is_break(b: u8) -> bool
@@ -15,46 +13,29 @@ fn is_break(b: u8) -> bool
     matches!(b, b'\r' | b'\n')
 }
 
-/// A byte that may stand in a line: neither NUL, nor CR, nor LF.
-fn is_plain(b: u8) -> bool
-    ensures { result ≡ is_plain b }
-{
-    !matches!(b, 0 | b'\r' | b'\n')
-}
-
-/// Where the longest run of plain bytes from `from` on ends.
-#[tactic(auto, using(crate::proofs::Runs::plain_stops, crate::proofs::Runs::plain_goes, crate::proofs::Runs::plain_all))]
+/// Where the longest run of bytes of a line from `from` on ends: of bytes other than NUL, CR and LF.
+#[tactic(auto, using(crate::proofs::Runs::plain_run))]
 fn plain_end(text: &[u8], from: usize) -> usize
     requires { from ≤ length text.now }
     ensures value { result ≡ plain_end text.now from }
     ensures bounds { (from ≤ result) × (result ≤ length text.now) }
 {
-    for at in from..text.len() {
-        if !is_plain(text[at]) {
-            return at;
-        }
-    }
-    text.len()
+    run_end(text, from, Class::InLine)
 }
 
 /// The end of SP and HTAB.
-#[tactic(auto, using(crate::proofs::Runs::wsp_stops, crate::proofs::Runs::wsp_goes, crate::proofs::Runs::wsp_all))]
+#[tactic(auto, using(crate::proofs::Runs::wsp_run))]
 pub fn wsp_end(text: &[u8], from: usize) -> usize
     requires { from ≤ length text.now }
     ensures value { result ≡ wsp_end text.now from }
     ensures bounds { (from ≤ result) × (result ≤ length text.now) }
 {
-    for at in from..text.len() {
-        if !is_wsp(text[at]) {
-            return at;
-        }
-    }
-    text.len()
+    run_end(text, from, Class::Wsp)
 }
 
 /// How many bytes of CR and LF stand in front.
 #[tactic(auto, using(crate::proofs::Runs::skip_stops, crate::proofs::Runs::skip_goes, crate::proofs::Runs::skip_all, crate::proofs::Runs::skip_starts))]
-fn skipped(text: &[u8]) -> usize
+pub fn skipped(text: &[u8]) -> usize
     ensures value { result ≡ skipped text.now }
     ensures within { result ≤ length text.now }
 {

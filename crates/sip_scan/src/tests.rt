@@ -227,3 +227,18 @@ fn compact_names(rt: HostRuntime) {
     assert_eq!(rt; full_name(b"e"), b"Content-Encoding".as_slice());
     assert_eq!(rt; full_name(b"x"), b"x".as_slice());
 }
+
+/// The example of [`Head`].
+#[test]
+fn a_head_is_told_by_spans(rt: HostRuntime) {
+    let mut room = Head::new();
+    let b = b"OPTIONS sip:a@h SIP/2.0\r\nv: SIP/2.0/UDP h\r\n\r\n";
+    assert!(rt; scan_into(b, &mut room).is_ok());
+    assert_eq!(rt; room.start, Span { from: 0, to: 23 });
+    for field in room.fields.as_slice() {
+        assert_eq!(rt; field.kind, Kind::Via);
+        assert_eq!(rt; field.value, Span { from: 27, to: 41 });
+    }
+    assert_eq!(rt; room.fields.len(), 1);
+    assert_eq!(rt; room.body, 45);
+}

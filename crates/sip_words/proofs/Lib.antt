@@ -1,3 +1,4 @@
+pub mod ClassTable
 pub mod Runs
 pub mod Digits
 pub mod ManyLaws

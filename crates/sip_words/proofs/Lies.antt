@@ -7,7 +7,7 @@ use Rattle.std.proofs.lemmas.Option.{IfSome_then}
 use Rattle.sip_words.specs.declared.Span.{Span}
 use Rattle.sip_words.specs.declared.params.Param.{Param}
 use Rattle.sip_words.specs.Spans.{IsBetween, HasParts}
-use Rattle.sip_words.specs.Grammar.{lws, MarkTree, mark, ValueTree, value, ParamTree, assigned, param, value_place, param_place, params, named_place}
+use Rattle.sip_words.specs.Grammar.{lws, SeparatorTree, separator, ValueTree, value, ParamTree, assigned, param, value_place, param_place, params, named_place}
 use Rattle.sip_words.proofs.Takes.{Takes}
 use Rattle.sip_words.proofs.Pieces.{within}
 
@@ -30,17 +30,17 @@ wider_parts i j k l p low high lies = record {
   value = IfSome_then p.value lies.value (λ s lie. wider_span i j k l s low high lie);
 }
 
-pub mark_length : (byte : ℕ) (m : MarkTree) → length (mark byte m) ≡ length (lws m.before) + suc (length (lws m.after))
-mark_length byte m = length-append (lws m.before) (byte ∷ lws m.after)
+pub separator_length : (byte : ℕ) (m : SeparatorTree) → length (separator byte m) ≡ length (lws m.before) + suc (length (lws m.after))
+separator_length byte m = length-append (lws m.before) (byte ∷ lws m.after)
 
 value_lies : (i j k : ℕ) (v : Option ValueTree) → k ≤ i → i + length (assigned v) ≤ j → IfSome (value_place i v) (IsBetween k j)
 value_lies i j k None low high = tt
 value_lies i j k (Some v) low high = record { low = omega (arith, low); order = omega arith; high = omega (arith, high) }
 
--- the parts of a parameter, by the lengths of its mark, the LWS in front of the mark, its name and its value
-lies_by : (i j before mark_len name value : ℕ) (q : Param) → before < mark_len → i + (mark_len + (name + value)) ≤ j
-    → q.whole.from ≡ i + before → q.whole.to ≡ i + mark_len + name + value → q.name.from ≡ i + mark_len → q.name.to ≡ i + mark_len + name → IfSome q.value (IsBetween i j) → HasParts i j q
-lies_by i j before mark_len name value q marked inside from to name_from name_to lies = record {
+-- the parts of a parameter, by the lengths of its separator, the LWS in front of the separator, its name and its value
+lies_by : (i j before separator_len name value : ℕ) (q : Param) → before < separator_len → i + (separator_len + (name + value)) ≤ j
+    → q.whole.from ≡ i + before → q.whole.to ≡ i + separator_len + name + value → q.name.from ≡ i + separator_len → q.name.to ≡ i + separator_len + name → IfSome q.value (IsBetween i j) → HasParts i j q
+lies_by i j before separator_len name value q marked inside from to name_from name_to lies = record {
   whole = record { low = omega (arith, from); order = omega (arith, from, to, marked); high = omega (arith, to, inside) };
   name = record { low = omega (arith, name_from); order = omega (arith, name_from, name_to); high = omega (arith, name_to, inside) };
   value = lies;
@@ -48,17 +48,17 @@ lies_by i j before mark_len name value q marked inside from to name_from name_to
 
 pub param_lies : (i : ℕ) (p : ParamTree) → HasParts i (i + length (param p)) (param_place i p)
 param_lies i p =
-    let whole = length-append (mark 59 p.semicolon) (p.name ++ assigned p.value) in
+    let whole = length-append (separator 59 p.semicolon) (p.name ++ assigned p.value) in
     let rest = length-append p.name (assigned p.value) in
-    let marked = mark_length 59 p.semicolon in
-    lies_by i (i + length (param p)) (length (lws p.semicolon.before)) (length (mark 59 p.semicolon)) (length p.name) (length (assigned p.value)) (param_place i p)
+    let marked = separator_length 59 p.semicolon in
+    lies_by i (i + length (param p)) (length (lws p.semicolon.before)) (length (separator 59 p.semicolon)) (length p.name) (length (assigned p.value)) (param_place i p)
     (omega (arith, marked))
     (omega (arith, whole, rest))
     refl
     refl
     refl
     refl
-    (value_lies (i + length (mark 59 p.semicolon) + length p.name) (i + length (param p)) i p.value (omega arith) (omega (arith, whole, rest)))
+    (value_lies (i + length (separator 59 p.semicolon) + length p.name) (i + length (param p)) i p.value (omega arith) (omega (arith, whole, rest)))
 
 -- the first parameter of a name lies among the parameters
 pub named_lies : (name : List ℕ) (i : ℕ) (ps : List ParamTree) → IfSome (named_place name i ps) (HasParts i (i + length (params ps)))

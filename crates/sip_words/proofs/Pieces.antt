@@ -10,13 +10,13 @@ use Rattle.std.proofs.lemmas.Bool.{cases_eq, both_ways, ne_eqb, eq-eqb, lt-ltb, 
 use Rattle.std.proofs.lemmas.List.{drop-drop, drop_at, take_at, length-map}
 use Rattle.sip_words.specs.declared.bytes.Class.{Class}
 use Rattle.sip_words.specs.declared.bytes.Class.TheVariants.{Token, Name, Digit}
-use Rattle.sip_words.specs.declared.marks.Setting.{Setting}
-use Rattle.sip_words.specs.declared.marks.Setting.TheVariants.{Field, Uri}
+use Rattle.sip_words.specs.declared.separators.Surroundings.{Surroundings}
+use Rattle.sip_words.specs.declared.separators.Surroundings.TheVariants.{Field, Uri}
 use Rattle.sip_words.specs.Bytes.{has, is_wsp}
 use Rattle.sip_words.specs.Words.{run_end, word_end, word_at, blank_len, lws_len, lws_end, gap_end, quoted_len, quoted_end, stands}
-use Rattle.sip_words.specs.Marks.{skip, mark_at}
+use Rattle.sip_words.specs.Separators.{skip, separator_at}
 use Rattle.sip_words.specs.Numbers.{number_at}
-use Rattle.sip_words.specs.Grammar.{Blank, Space, Tab, FoldSpace, FoldTab, lws, MarkTree, mark, IsSpacing, IsMark, mark_place, IsWord, Quotable, Plain, Escaped, quotable, IsQuotable}
+use Rattle.sip_words.specs.Grammar.{Blank, Space, Tab, FoldSpace, FoldTab, lws, SeparatorTree, separator, IsSpacing, IsSeparator, separator_place, IsWord, Quotable, Plain, Escaped, quotable, IsQuotable}
 use Rattle.sip_words.proofs.Runs.{is_none, closes, escapes, goes}
 
 -- behind what stands at i
@@ -141,25 +141,25 @@ pub name_solid : (w x : List ℕ) → IsWord Name w → blank_len (w ++ x) ≡ 0
 unfolding has
 name_solid w x is = word_solid Name w x refl refl refl is
 
-skip_again : (setting : Setting) (text : List ℕ) (i : ℕ) (bs : List Blank) (rest : List ℕ) → drop i text ≡ lws bs ++ rest → IsSpacing setting bs → blank_len rest ≡ 0 → skip setting text i ≡ i + length (lws bs)
+skip_again : (surroundings : Surroundings) (text : List ℕ) (i : ℕ) (bs : List Blank) (rest : List ℕ) → drop i text ≡ lws bs ++ rest → IsSpacing surroundings bs → blank_len rest ≡ 0 → skip surroundings text i ≡ i + length (lws bs)
 skip_again Field text i bs rest h spacing none = lws_again text i bs rest h none
 skip_again Uri text i bs rest h spacing none = omega (arith, ap (λ (xs : List Blank). length (lws xs)) spacing)
 
-pub mark_again : (setting : Setting) (m : ℕ) (text : List ℕ) (i : ℕ) (t : MarkTree) (rest : List ℕ) → IsSolid m → IsMark setting t → blank_len rest ≡ 0 → drop i text ≡ mark m t ++ rest → mark_at setting m text i ≡ Some (mark_place i m t)
-unfolding mark_at
-mark_again setting m text i t rest is spacing none h =
+pub separator_again : (surroundings : Surroundings) (m : ℕ) (text : List ℕ) (i : ℕ) (t : SeparatorTree) (rest : List ℕ) → IsSolid m → IsSeparator surroundings t → blank_len rest ≡ 0 → drop i text ≡ separator m t ++ rest → separator_at surroundings m text i ≡ Some (separator_place i m t)
+unfolding separator_at
+separator_again surroundings m text i t rest is spacing none h =
     let whole : drop i text ≡ lws t.before ++ (m ∷ (lws t.after ++ rest)) = h ∙ append_assoc (lws t.before) (m ∷ lws t.after) rest in
-    let place = skip_again setting text i t.before _ whole spacing.before (solid m _ is) in
+    let place = skip_again surroundings text i t.before _ whole spacing.before (solid m _ is) in
     let at = behind text i (lws t.before) _ whole in
     let here = stands_at m text _ _ at in
     let next : drop ((i + length (lws t.before)) + 1) text ≡ lws t.after ++ rest = behind text _ (m ∷ []) _ at in
-    let end = skip_again setting text _ t.after rest next spacing.after none in
+    let end = skip_again surroundings text _ t.after rest next spacing.after none in
     rw (place, here, end) (ap (λ (n : ℕ). Some record { place = i + length (lws t.before); end = n }) (omega (arith, length-append (lws t.before) (m ∷ lws t.after))))
 
--- LWS, and then another byte than the mark, or none
-pub no_mark : (setting : Setting) (m : ℕ) (text : List ℕ) (i : ℕ) (bs : List Blank) (rest : List ℕ) → drop i text ≡ lws bs ++ rest → IsSpacing setting bs → blank_len rest ≡ 0 → Lacks m rest → mark_at setting m text i ≡ None
-unfolding mark_at
-no_mark setting m text i bs rest h spacing none lacks = rw (skip_again setting text i bs rest h spacing none, stands_no m text _ rest (behind text i (lws bs) rest h) lacks) refl
+-- LWS, and then another byte than the separator, or none
+pub no_separator : (surroundings : Surroundings) (m : ℕ) (text : List ℕ) (i : ℕ) (bs : List Blank) (rest : List ℕ) → drop i text ≡ lws bs ++ rest → IsSpacing surroundings bs → blank_len rest ≡ 0 → Lacks m rest → separator_at surroundings m text i ≡ None
+unfolding separator_at
+no_separator surroundings m text i bs rest h spacing none lacks = rw (skip_again surroundings text i bs rest h spacing none, stands_no m text _ rest (behind text i (lws bs) rest h) lacks) refl
 
 quoted_all : (q : List Quotable) (rest : List ℕ) → AllByRecursion IsQuotable q → quoted_len (flat_map quotable q ++ 34 ∷ rest) ≡ Some (length (flat_map quotable q) + 1)
 quoted_all [] rest a = closes rest

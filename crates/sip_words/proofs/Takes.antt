@@ -9,18 +9,18 @@ use Rattle.std.proofs.lemmas.List.{drop-drop, drop_more, append-nil, take-append
 use Rattle.std.proofs.lemmas.Option.{cond_some, same_Some, none-some, slice_get_within, get_or_from_slice_get}
 use Rattle.sip_words.specs.declared.bytes.Class.{Class}
 use Rattle.sip_words.specs.declared.bytes.Class.TheVariants.{Token, Digit}
-use Rattle.sip_words.specs.declared.marks.Mark.{Mark}
-use Rattle.sip_words.specs.declared.marks.Setting.{Setting}
-use Rattle.sip_words.specs.declared.marks.Setting.TheVariants.{Field, Uri}
+use Rattle.sip_words.specs.declared.separators.Separator.{Separator}
+use Rattle.sip_words.specs.declared.separators.Surroundings.{Surroundings}
+use Rattle.sip_words.specs.declared.separators.Surroundings.TheVariants.{Field, Uri}
 use Rattle.sip_words.specs.declared.params.Param.{Param}
 use Rattle.sip_words.specs.Bytes.{has, is_wsp}
 use Rattle.sip_words.specs.Spans.{span}
 use Rattle.sip_words.specs.Words.{run_end, word_at, word_end, is_fold, blank_len, lws_len, lws_end, gap_end, quoted_len, quoted_end, stands}
-use Rattle.sip_words.specs.Marks.{skip, mark_at}
+use Rattle.sip_words.specs.Separators.{skip, separator_at}
 use Rattle.sip_words.specs.Numbers.{number_at}
 use Rattle.sip_words.specs.Many.{Repeats}
 use Rattle.sip_words.specs.Params.{value_class, value_end, param_at, next_param, params_at}
-use Rattle.sip_words.specs.Grammar.{Blank, Space, Tab, FoldSpace, FoldTab, blank, lws, NoBlank, MarkTree, mark, IsSpacing, IsMark, mark_place, IsWord, Quotable, Plain, Escaped, quotable, IsQuotable, ValueTree, Bare, Quoted, value, IsValue, ParamTree, assigned, param, IsParam, value_place, param_place, params, param_places}
+use Rattle.sip_words.specs.Grammar.{Blank, Space, Tab, FoldSpace, FoldTab, blank, lws, NoBlank, SeparatorTree, separator, IsSpacing, IsSeparator, separator_place, IsWord, Quotable, Plain, Escaped, quotable, IsQuotable, ValueTree, Bare, Quoted, value, IsValue, ParamTree, assigned, param, IsParam, value_place, param_place, params, param_places}
 use Rattle.sip_words.proofs.Runs.{is_none, closes}
 use Rattle.sip_words.proofs.Digits.{word_is}
 use Rattle.sip_words.proofs.ManyLaws.{many_repeats}
@@ -143,42 +143,42 @@ at_place text i m h =
     record { whole = d ∙ ap (λ (b : ℕ). b ∷ drop (i + 1) text) g; end = refl }
 
 -- what skip leaves behind: no more LWS in a field
-abbrev pub Settled : Setting → List ℕ → Type 0
+abbrev pub Settled : Surroundings → List ℕ → Type 0
 Settled Field rest = blank_len rest ≡ 0
 Settled Uri rest = Unit {0}
 
 nothing : (text : List ℕ) (i : ℕ) → Takes text i i []
 nothing text i = record { whole = refl; end = omega arith }
 
-skip_takes : (setting : Setting) (text : List ℕ) (i : ℕ) → (bs : List Blank) × Takes text i (skip setting text i) (lws bs) × IsSpacing setting bs × Settled setting (drop (skip setting text i) text)
+skip_takes : (surroundings : Surroundings) (text : List ℕ) (i : ℕ) → (bs : List Blank) × Takes text i (skip surroundings text i) (lws bs) × IsSpacing surroundings bs × Settled surroundings (drop (skip surroundings text i) text)
 skip_takes Field text i = let r = lws_takes text i in (r.0, r.1, tt, r.2)
 skip_takes Uri text i = ([], nothing text i, refl, tt)
 
-pub record TakenMark (setting : Setting) (byte : ℕ) (text : List ℕ) (i : ℕ) (m : Mark) : Type 0 where
-  pub tree : MarkTree
-  pub takes : Takes text i m.end (mark byte tree)
-  pub is : IsMark setting tree
-  pub place : m ≡ mark_place i byte tree
-  pub settled : Settled setting (drop m.end text)
+pub record TakenSeparator (surroundings : Surroundings) (byte : ℕ) (text : List ℕ) (i : ℕ) (m : Separator) : Type 0 where
+  pub tree : SeparatorTree
+  pub takes : Takes text i m.end (separator byte tree)
+  pub is : IsSeparator surroundings tree
+  pub place : m ≡ separator_place i byte tree
+  pub settled : Settled surroundings (drop m.end text)
 
-pub mark_takes : (setting : Setting) (byte : ℕ) (text : List ℕ) (i : ℕ) (m : Mark) → mark_at setting byte text i ≡ Some m → TakenMark setting byte text i m
-unfolding mark_at
-mark_takes setting byte text i m h =
-    let c = cond_some (stands byte text (skip setting text i)) _ m h in
-    let one = skip_takes setting text i in
-    let two = skip_takes setting text (skip setting text i + 1) in
-    let tree : MarkTree = record { before = one.0; after = two.0 } in
-    let all : Takes text i (skip setting text (skip setting text i + 1)) (mark byte tree) = then one.1 (then (at_place text (skip setting text i) byte (stands_is byte text (skip setting text i) c.0)) two.1) in
-    subst (TakenMark setting byte text i) c.1 record {
+pub separator_takes : (surroundings : Surroundings) (byte : ℕ) (text : List ℕ) (i : ℕ) (m : Separator) → separator_at surroundings byte text i ≡ Some m → TakenSeparator surroundings byte text i m
+unfolding separator_at
+separator_takes surroundings byte text i m h =
+    let c = cond_some (stands byte text (skip surroundings text i)) _ m h in
+    let one = skip_takes surroundings text i in
+    let two = skip_takes surroundings text (skip surroundings text i + 1) in
+    let tree : SeparatorTree = record { before = one.0; after = two.0 } in
+    let all : Takes text i (skip surroundings text (skip surroundings text i + 1)) (separator byte tree) = then one.1 (then (at_place text (skip surroundings text i) byte (stands_is byte text (skip surroundings text i) c.0)) two.1) in
+    subst (TakenSeparator surroundings byte text i) c.1 record {
       tree = tree;
       takes = all;
       is = record { before = one.2; after = two.2 };
-      place = placed (skip setting text i) (skip setting text (skip setting text i + 1)) tree one.1.end all.end;
+      place = placed (skip surroundings text i) (skip surroundings text (skip surroundings text i + 1)) tree one.1.end all.end;
       settled = two.3;
     }
   where
-    placed : (place end : ℕ) (tree : MarkTree) → place ≡ i + length (lws tree.before) → end ≡ i + length (mark byte tree) → let n : Mark = record { place = place; end = end } in n ≡ mark_place i byte tree
-    placed place end tree a b = ap (λ (k : ℕ). let n : Mark = record { place = k; end = end } in n) a ∙ ap (λ (k : ℕ). let n : Mark = record { place = i + length (lws tree.before); end = k } in n) b
+    placed : (place end : ℕ) (tree : SeparatorTree) → place ≡ i + length (lws tree.before) → end ≡ i + length (separator byte tree) → let n : Separator = record { place = place; end = end } in n ≡ separator_place i byte tree
+    placed place end tree a b = ap (λ (k : ℕ). let n : Separator = record { place = k; end = end } in n) a ∙ ap (λ (k : ℕ). let n : Separator = record { place = i + length (lws tree.before); end = k } in n) b
 
 record Passing (p : ℕ → Bool) (xs : List ℕ) : Type 0 where
   w : List ℕ
@@ -256,30 +256,30 @@ quote_takes text i j h =
 pub stands_takes : (byte : ℕ) (text : List ℕ) (i : ℕ) → stands byte text i ≡ true → Takes text i (i + 1) (byte ∷ [])
 stands_takes byte text i h = at_place text i byte (stands_is byte text i h)
 
-value_takes : (setting : Setting) (text : List ℕ) (i j : ℕ) → value_end setting text i ≡ Some j → (v : ValueTree) × Takes text i j (value v) × IsValue setting v
+value_takes : (surroundings : Surroundings) (text : List ℕ) (i j : ℕ) → value_end surroundings text i ≡ Some j → (v : ValueTree) × Takes text i j (value v) × IsValue surroundings v
 unfolding value_end
-value_takes setting text i j h = elim (cases_Bool (stands 34 text i)) [
+value_takes surroundings text i j h = elim (cases_Bool (stands 34 text i)) [
   | inl t ↦ let q = quote_takes text (i + 1) j (rw t at h) in (Quoted q.0, then (stands_takes 34 text i t) q.1, q.2)
-  | inr f ↦ let w = word_takes (value_class setting) text i j (rw f at h) in (Bare w.0, w.1, w.2)
+  | inr f ↦ let w = word_takes (value_class surroundings) text i j (rw f at h) in (Bare w.0, w.1, w.2)
 ]
 
-record TakenParam (setting : Setting) (text : List ℕ) (m : Mark) (p : Param) : Type 0 where
+record TakenParam (surroundings : Surroundings) (text : List ℕ) (m : Separator) (p : Param) : Type 0 where
   name : List ℕ
   value : Option ValueTree
   takes : Takes text m.end p.whole.to (name ++ assigned value)
   word : IsWord Token name
-  is : IfSome value (IsValue setting)
+  is : IfSome value (IsValue surroundings)
   place : let q : Param = record { whole = span m.place ((m.end + length name) + length (assigned value)); name = span m.end (m.end + length name); value = value_place (m.end + length name) value } in p ≡ q
 
-param_takes : (setting : Setting) (text : List ℕ) (m : Mark) (p : Param) → param_at setting text m ≡ Some p → TakenParam setting text m p
+param_takes : (surroundings : Surroundings) (text : List ℕ) (m : Separator) (p : Param) → param_at surroundings text m ≡ Some p → TakenParam surroundings text m p
 unfolding param_at
-param_takes setting text m p h =
+param_takes surroundings text m p h =
     let e = bind_some (word_end Token text m.end) _ p h in
     let name = word_takes Token text m.end e.0 e.1 in
     elim (cases_Bool (stands 61 text e.0)) [
       | inl t ↦
-          let v = bind_some (value_end setting text (e.0 + 1)) _ p (rw t at e.2) in
-          let val = value_takes setting text (e.0 + 1) v.0 v.1 in
+          let v = bind_some (value_end surroundings text (e.0 + 1)) _ p (rw t at e.2) in
+          let val = value_takes surroundings text (e.0 + 1) v.0 v.1 in
           let same = same_Some _ _ v.2 in
           let end = ap (λ (q : Param). q.whole.to) same in
           let all = then name.1 (then (stands_takes 61 text e.0 t) val.1) in
@@ -319,26 +319,26 @@ param_takes setting text m p h =
         ap (λ (k : ℕ). let q : Param = record { whole = span s k; name = span i e; value = None } in q) end
         ∙ ap (λ (k : ℕ). let q : Param = record { whole = span s ((i + length name) + 0); name = span i k; value = None } in q) a
 
-pub record TakenParams (setting : Setting) (text : List ℕ) (i : ℕ) (ps : List Param) (j : ℕ) : Type 0 where
+pub record TakenParams (surroundings : Surroundings) (text : List ℕ) (i : ℕ) (ps : List Param) (j : ℕ) : Type 0 where
   pub trees : List ParamTree
   pub takes : Takes text i j (params trees)
-  pub are : AllByRecursion (IsParam setting) trees
+  pub are : AllByRecursion (IsParam surroundings) trees
   pub places : ps ≡ param_places i trees
-  pub none : mark_at setting 59 text j ≡ None
+  pub none : separator_at surroundings 59 text j ≡ None
 
-repeat_takes : (setting : Setting) (text : List ℕ) (i : ℕ) (ps : List Param) (j : ℕ) → Repeats (next_param setting text) i ps j → TakenParams setting text i ps j
-repeat_takes setting text i [] j h =
-    let P : ℕ → Type 0 = λ n. mark_at setting 59 text n ≡ None in
+repeat_takes : (surroundings : Surroundings) (text : List ℕ) (i : ℕ) (ps : List Param) (j : ℕ) → Repeats (next_param surroundings text) i ps j → TakenParams surroundings text i ps j
+repeat_takes surroundings text i [] j h =
+    let P : ℕ → Type 0 = λ n. separator_at surroundings 59 text n ≡ None in
     let end : i ≡ j = h.1 in
-    record { trees = []; takes = record { whole = ap (λ n. drop n text) end; end = omega arith }; are = tt; places = refl; none = subst P end (done_is setting text i h.0) }
-repeat_takes setting text i (p ∷ ps) j h =
-    let is = item_is setting text i h.0 p h.1 in
-    let m = mark_takes setting 59 text i is.0 is.1 in
-    let t = param_takes setting text is.0 p is.2 in
+    record { trees = []; takes = record { whole = ap (λ n. drop n text) end; end = omega arith }; are = tt; places = refl; none = subst P end (done_is surroundings text i h.0) }
+repeat_takes surroundings text i (p ∷ ps) j h =
+    let is = item_is surroundings text i h.0 p h.1 in
+    let m = separator_takes surroundings 59 text i is.0 is.1 in
+    let t = param_takes surroundings text is.0 p is.2 in
     let tree : ParamTree = record { semicolon = m.tree; name = t.name; value = t.value } in
     let one : Takes text i h.0 (param tree) = subst (λ k. Takes text i k (param tree)) (sym is.3) (then m.takes t.takes) in
-    let rest = repeat_takes setting text h.0 ps j h.2 in
-    let place : p ≡ param_place i tree = t.place ∙ ap (λ (n : Mark). let q : Param = record { whole = span n.place ((n.end + length t.name) + length (assigned t.value)); name = span n.end (n.end + length t.name); value = value_place (n.end + length t.name) t.value } in q) m.place in
+    let rest = repeat_takes surroundings text h.0 ps j h.2 in
+    let place : p ≡ param_place i tree = t.place ∙ ap (λ (n : Separator). let q : Param = record { whole = span n.place ((n.end + length t.name) + length (assigned t.value)); name = span n.end (n.end + length t.name); value = value_place (n.end + length t.name) t.value } in q) m.place in
     record {
       trees = tree ∷ rest.trees;
       takes = then one rest.takes;
@@ -347,9 +347,9 @@ repeat_takes setting text i (p ∷ ps) j h =
       none = rest.none;
     }
 
-pub params_takes : (setting : Setting) (text : List ℕ) (i : ℕ) (r : List Param × ℕ) → params_at setting text i ≡ Some r → TakenParams setting text i r.0 r.1
+pub params_takes : (surroundings : Surroundings) (text : List ℕ) (i : ℕ) (r : List Param × ℕ) → params_at surroundings text i ≡ Some r → TakenParams surroundings text i r.0 r.1
 unfolding params_at
-params_takes setting text i r h = repeat_takes setting text i r.0 r.1 (many_repeats (length text) (next_param setting text) i r h)
+params_takes surroundings text i r h = repeat_takes surroundings text i r.0 r.1 (many_repeats (length text) (next_param surroundings text) i r h)
 
 -- the part that was taken
 pub part_taken : (text : List ℕ) (i j : ℕ) (w : List ℕ) → Takes text i j w → slice_range text i j ≡ w

@@ -2,11 +2,12 @@
 use Rattle.std.specs.Prelude.{◌≡◌, ◌≢◌, ℕ, ◌+◌, ◌<◌, true, List, [], ◌∷◌, ◌++◌, length, Option, Some, None, IfSome, if◌then◌else◌}
 use Rattle.std.specs.List.{find, flat_map, AllByRecursion}
 use Rattle.std.specs.Str.{str_eq_ignore_ascii_case}
+use Rattle.sip_words.specs.ByteNames.{HTAB, LF, CR, SP, DQUOTE, SEMI, EQUAL, BACKSLASH}
 use Rattle.sip_words.specs.declared.bytes.Class.{Class}
 use Rattle.sip_words.specs.declared.bytes.Class.TheVariants.{Token}
-use Rattle.sip_words.specs.declared.marks.Mark.{Mark}
-use Rattle.sip_words.specs.declared.marks.Setting.{Setting}
-use Rattle.sip_words.specs.declared.marks.Setting.TheVariants.{Field, Uri}
+use Rattle.sip_words.specs.declared.separators.Separator.{Separator}
+use Rattle.sip_words.specs.declared.separators.Surroundings.{Surroundings}
+use Rattle.sip_words.specs.declared.separators.Surroundings.TheVariants.{Field, Uri}
 use Rattle.sip_words.specs.declared.Span.{Span}
 use Rattle.sip_words.specs.declared.params.Param.{Param}
 use Rattle.sip_words.specs.Bytes.{has}
@@ -21,10 +22,10 @@ pub data Blank : Type 0 where
   FoldTab : Blank
 
 abbrev pub blank : Blank → List ℕ
-blank Space = 32 ∷ []
-blank Tab = 9 ∷ []
-blank FoldSpace = 13 ∷ 10 ∷ 32 ∷ []
-blank FoldTab = 13 ∷ 10 ∷ 9 ∷ []
+blank Space = SP ∷ []
+blank Tab = HTAB ∷ []
+blank FoldSpace = CR ∷ LF ∷ SP ∷ []
+blank FoldTab = CR ∷ LF ∷ HTAB ∷ []
 
 abbrev pub lws : List Blank → List ℕ
 lws blanks = flat_map blank blanks
@@ -34,24 +35,24 @@ abbrev pub NoBlank : List ℕ → Type 0
 NoBlank rest = (b : Blank) (w : List ℕ) → rest ≢ blank b ++ w
 
 -- one byte, with LWS round it
-pub record MarkTree : Type 0 where
+pub record SeparatorTree : Type 0 where
   pub before : List Blank
   pub after : List Blank
 
-abbrev pub mark : ℕ → MarkTree → List ℕ
-mark byte m = lws m.before ++ byte ∷ lws m.after
+abbrev pub separator : ℕ → SeparatorTree → List ℕ
+separator byte m = lws m.before ++ byte ∷ lws m.after
 
 -- in a URI no LWS stands
-abbrev pub IsSpacing : Setting → List Blank → Type 0
+abbrev pub IsSpacing : Surroundings → List Blank → Type 0
 IsSpacing Field bs = Unit {0}
 IsSpacing Uri bs = bs ≡ []
 
-pub record IsMark (setting : Setting) (m : MarkTree) : Type 0 where
-  pub before : IsSpacing setting m.before
-  pub after : IsSpacing setting m.after
+pub record IsSeparator (surroundings : Surroundings) (m : SeparatorTree) : Type 0 where
+  pub before : IsSpacing surroundings m.before
+  pub after : IsSpacing surroundings m.after
 
-abbrev pub mark_place : ℕ → ℕ → MarkTree → Mark
-mark_place i byte m = record { place = i + length (lws m.before); end = i + length (mark byte m) }
+abbrev pub separator_place : ℕ → ℕ → SeparatorTree → Separator
+separator_place i byte m = record { place = i + length (lws m.before); end = i + length (separator byte m) }
 
 -- one or more bytes of a class
 pub record IsWord (class : Class) (w : List ℕ) : Type 0 where
@@ -65,15 +66,15 @@ pub data Quotable : Type 0 where
 
 abbrev pub quotable : Quotable → List ℕ
 quotable (Plain b) = b ∷ []
-quotable (Escaped b) = 92 ∷ b ∷ []
+quotable (Escaped b) = BACKSLASH ∷ b ∷ []
 
 abbrev pub IsQuotable : Quotable → Type 0
-IsQuotable (Plain b) = (b ≢ 34) × (b ≢ 92)
+IsQuotable (Plain b) = (b ≢ DQUOTE) × (b ≢ BACKSLASH)
 IsQuotable (Escaped b) = Unit {0}
 
 -- with its quotes
 abbrev pub quoted : List Quotable → List ℕ
-quoted q = 34 ∷ (flat_map quotable q ++ 34 ∷ [])
+quoted q = DQUOTE ∷ (flat_map quotable q ++ DQUOTE ∷ [])
 
 pub data ValueTree : Type 0 where
   Bare : List ℕ → ValueTree
@@ -83,27 +84,27 @@ abbrev pub value : ValueTree → List ℕ
 value (Bare w) = w
 value (Quoted q) = quoted q
 
-abbrev pub IsValue : Setting → ValueTree → Type 0
-IsValue setting (Bare w) = IsWord (value_class setting) w
-IsValue setting (Quoted q) = AllByRecursion IsQuotable q
+abbrev pub IsValue : Surroundings → ValueTree → Type 0
+IsValue surroundings (Bare w) = IsWord (value_class surroundings) w
+IsValue surroundings (Quoted q) = AllByRecursion IsQuotable q
 
 -- ;name or ;name=value
 pub record ParamTree : Type 0 where
-  pub semicolon : MarkTree
+  pub semicolon : SeparatorTree
   pub name : List ℕ
   pub value : Option ValueTree
 
 abbrev pub assigned : Option ValueTree → List ℕ
 assigned None = []
-assigned (Some v) = 61 ∷ value v
+assigned (Some v) = EQUAL ∷ value v
 
 abbrev pub param : ParamTree → List ℕ
-param p = mark 59 p.semicolon ++ (p.name ++ assigned p.value)
+param p = separator SEMI p.semicolon ++ (p.name ++ assigned p.value)
 
-pub record IsParam (setting : Setting) (p : ParamTree) : Type 0 where
-  pub semicolon : IsMark setting p.semicolon
+pub record IsParam (surroundings : Surroundings) (p : ParamTree) : Type 0 where
+  pub semicolon : IsSeparator surroundings p.semicolon
   pub name : IsWord Token p.name
-  pub value : IfSome p.value (IsValue setting)
+  pub value : IfSome p.value (IsValue surroundings)
 
 abbrev pub value_place : ℕ → Option ValueTree → Option Span
 value_place i None = None
@@ -112,7 +113,7 @@ value_place i (Some v) = Some (span (i + 1) (i + 1 + length (value v)))
 -- a parameter's parts, where what stands before it ends at i
 abbrev pub param_place : ℕ → ParamTree → Param
 param_place i p =
-    let m = mark_place i 59 p.semicolon in
+    let m = separator_place i SEMI p.semicolon in
     let end = m.end + length p.name in
     record { whole = span m.place (end + length (assigned p.value)); name = span m.end end; value = value_place end p.value }
 

@@ -1,8 +1,13 @@
+pub mod ByteNames
 pub mod Bytes
+pub mod ClassTable
 pub mod Words
 pub mod Spans
-pub mod Marks
+pub mod Separators
 pub mod Numbers
+pub mod Addresses
+pub mod Room
+pub mod Splits
 pub mod Many
 pub mod Params
 pub mod Grammar

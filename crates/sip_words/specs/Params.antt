@@ -2,33 +2,34 @@
 use Rattle.std.specs.Prelude.{ℕ, ◌+◌, Bool, List, length, Option, Some, None, if◌then◌else◌, slice_range, codes}
 use Rattle.std.specs.List.{find}
 use Rattle.std.specs.Str.{str_eq_ignore_ascii_case}
+use Rattle.sip_words.specs.ByteNames.{DQUOTE, SEMI, EQUAL}
 use Rattle.sip_words.specs.declared.bytes.Class.{Class}
 use Rattle.sip_words.specs.declared.bytes.Class.TheVariants.{Token, Value, UriValue}
-use Rattle.sip_words.specs.declared.marks.Mark.{Mark}
-use Rattle.sip_words.specs.declared.marks.Setting.{Setting}
-use Rattle.sip_words.specs.declared.marks.Setting.TheVariants.{Field, Uri}
+use Rattle.sip_words.specs.declared.separators.Separator.{Separator}
+use Rattle.sip_words.specs.declared.separators.Surroundings.{Surroundings}
+use Rattle.sip_words.specs.declared.separators.Surroundings.TheVariants.{Field, Uri}
 use Rattle.sip_words.specs.declared.params.Param.{Param}
 use Rattle.sip_words.specs.declared.params.Params.{Params}
 use Rattle.sip_words.specs.Words.{◌>>=◌, word_end, quoted_end, stands}
-use Rattle.sip_words.specs.Marks.{mark_at}
+use Rattle.sip_words.specs.Separators.{separator_at}
 use Rattle.sip_words.specs.Spans.{span}
 use Rattle.sip_words.specs.Many.{Next, Item, Done, Wrong, many}
 
-abbrev pub value_class : Setting → Class
+abbrev pub value_class : Surroundings → Class
 value_class Field = Value
 value_class Uri = UriValue
 
 -- a quoted string, or one or more bytes that a value without quotes may have
-unfoldable pub value_end : Setting → List ℕ → ℕ → Option ℕ
-value_end setting text i = if stands 34 text i then quoted_end text (i + 1) else word_end (value_class setting) text i
+unfoldable pub value_end : Surroundings → List ℕ → ℕ → Option ℕ
+value_end surroundings text i = if stands DQUOTE text i then quoted_end text (i + 1) else word_end (value_class surroundings) text i
 
 -- the parameter behind a semicolon
-unfoldable pub param_at : Setting → List ℕ → Mark → Option Param
-param_at setting text m = do
+unfoldable pub param_at : Surroundings → List ℕ → Separator → Option Param
+param_at surroundings text m = do
   e ← word_end Token text m.end
-  if stands 61 text e
+  if stands EQUAL text e
       then (do
-        v ← value_end setting text (e + 1)
+        v ← value_end surroundings text (e + 1)
         Some record { whole = span m.place v; name = span m.end e; value = Some (span (e + 1) v) })
       else Some record { whole = span m.place e; name = span m.end e; value = None }
 
@@ -36,16 +37,16 @@ abbrev pub item : Option Param → Next Param
 item None = Wrong
 item (Some p) = Item p p.whole.to
 
-abbrev pub item_behind : Setting → List ℕ → Option Mark → Next Param
-item_behind setting text None = Done
-item_behind setting text (Some m) = item (param_at setting text m)
+abbrev pub item_behind : Surroundings → List ℕ → Option Separator → Next Param
+item_behind surroundings text None = Done
+item_behind surroundings text (Some m) = item (param_at surroundings text m)
 
-unfoldable pub next_param : Setting → List ℕ → ℕ → Next Param
-next_param setting text i = item_behind setting text (mark_at setting 59 text i)
+unfoldable pub next_param : Surroundings → List ℕ → ℕ → Next Param
+next_param surroundings text i = item_behind surroundings text (separator_at surroundings SEMI text i)
 
 -- the parameters from i on, each behind a semicolon, and where they end
-unfoldable pub params_at : Setting → List ℕ → ℕ → Option (List Param × ℕ)
-params_at setting text i = many (length text) (next_param setting text) i
+unfoldable pub params_at : Surroundings → List ℕ → ℕ → Option (List Param × ℕ)
+params_at surroundings text i = many (length text) (next_param surroundings text) i
 
 abbrev pub is_named : List ℕ → List ℕ → Param → Bool
 is_named name text p = str_eq_ignore_ascii_case (slice_range text p.name.from p.name.to) name

@@ -2,6 +2,7 @@
 use Rattle.std.specs.Prelude.{ℕ, Bool, false, List, [], ◌∷◌, ◌+◌, ◌==◌, cond, drop, length, Option, Some, None, nat_lt, option_and_then, if◌then◌else◌, slice_get, slice_range, option_map}
 use Rattle.std.specs.List.{prefix_len}
 use Rattle.std.specs.Str.{str_eq_ignore_ascii_case}
+use Rattle.sip_words.specs.ByteNames.{LF, CR, DQUOTE, BACKSLASH}
 use Rattle.sip_words.specs.declared.bytes.Class.{Class}
 use Rattle.sip_words.specs.Bytes.{is_wsp, has}
 
@@ -19,7 +20,7 @@ word_end class text i = if nat_lt i (run_end class text i) then Some (run_end cl
 
 -- SP, HTAB, or CRLF and one of these
 abbrev pub is_fold : ℕ → ℕ → ℕ → Bool
-is_fold a b c = cond (a == 13) (cond (b == 10) (is_wsp c) false) false
+is_fold a b c = cond (a == CR) (cond (b == LF) (is_wsp c) false) false
 
 -- the length of the SP, HTAB or fold at the front, or 0
 unfoldable pub blank_len : List ℕ → ℕ
@@ -45,8 +46,8 @@ gap_end text i = if nat_lt i (lws_end text i) then Some (lws_end text i) else No
 -- how many bytes up to the closing quote, and with it
 unfoldable pub quoted_len : List ℕ → Option ℕ
 quoted_len [] = None
-quoted_len (b ∷ []) = cond (b == 34) (Some 1) None
-quoted_len (b ∷ c ∷ rest) = cond (b == 34) (Some 1) (cond (b == 92) (option_map (λ n. 2 + n) (quoted_len rest)) (option_map (λ n. 1 + n) (quoted_len (c ∷ rest))))
+quoted_len (b ∷ []) = cond (b == DQUOTE) (Some 1) None
+quoted_len (b ∷ c ∷ rest) = cond (b == DQUOTE) (Some 1) (cond (b == BACKSLASH) (option_map (λ n. 2 + n) (quoted_len rest)) (option_map (λ n. 1 + n) (quoted_len (c ∷ rest))))
 
 unfoldable pub quoted_end : List ℕ → ℕ → Option ℕ
 quoted_end text i = option_map (λ n. i + n) (quoted_len (drop i text))
@@ -58,6 +59,10 @@ is_the b (Some c) = c == b
 -- whether this byte stands at i
 unfoldable pub stands : ℕ → List ℕ → ℕ → Bool
 stands b text i = is_the b (slice_get text i)
+
+-- the place behind this byte, where it stands at i
+unfoldable pub byte_end : ℕ → List ℕ → ℕ → Option ℕ
+byte_end b text i = if stands b text i then Some (i + 1) else None
 
 -- the end of this word, whose case is ignored
 unfoldable pub word_at : List ℕ → List ℕ → ℕ → Option ℕ

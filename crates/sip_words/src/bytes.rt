@@ -1,21 +1,43 @@
+//! Classes of bytes (RFC 3261, section 25.1), each answered by one look into a table.
 ghost use Rattle.std.specs.Prelude.{◌≡◌};
-ghost use Rattle.sip_words.specs.Bytes.{is_wsp, is_visible, has};
+ghost use Rattle.sip_words.specs.Bytes.{has};
+ghost use Rattle.sip_words.specs.ClassTable.{class_bit};
 
-/// SP or HTAB.
-pub fn is_wsp(b: u8) -> bool
-    ensures { result ≡ is_wsp b }
-{
-    matches!(b, b' ' | b'\t')
-}
-
-/// Neither DEL, nor SP, nor a byte below SP.
-pub fn is_visible(b: u8) -> bool
-    ensures { result ≡ is_visible b }
-{
-    b > 32 && b != 127
-}
+/// For each byte the classes that have it, as the sum of their bits.
+static CLASSES: [u16; 256] = [
+    0x31E0, 0xB1E0, 0xB1E0, 0xB1E0, 0xB1E0, 0xB1E0, 0xB1E0, 0xB1E0, 0xB1E0, 0xD100, 0x1140, 0xB1E0,
+    0xB1E0, 0x1140, 0xB1E0, 0xB1E0, 0xB1E0, 0xB1E0, 0xB1E0, 0xB1E0, 0xB1E0, 0xB1E0, 0xB1E0, 0xB1E0,
+    0xB1E0, 0xB1E0, 0xB1E0, 0xB1E0, 0xB1E0, 0xB1E0, 0xB1E0, 0xB1E0, 0xD100, 0xBFE1, 0xBF80, 0xBFE0,
+    0xBFE0, 0xBFE1, 0xBFE0, 0xBFE1, 0xBFE0, 0xBFE0, 0xBFE1, 0xBFF1, 0xBF00, 0xBFF3, 0xBFF3, 0xBFE0,
+    0xBFF7, 0xBFF7, 0xBFF7, 0xBFF7, 0xBFF7, 0xBFF7, 0xBFF7, 0xBFF7, 0xBFF7, 0xBFF7, 0xBBE0, 0xBF00,
+    0xBF00, 0xBFE0, 0xBE00, 0xBFA0, 0xA3E0, 0xBFFB, 0xBFFB, 0xBFFB, 0xBFFB, 0xBFFB, 0xBFFB, 0xBFFB,
+    0xBFFB, 0xBFFB, 0xBFFB, 0xBFFB, 0xBFFB, 0xBFFB, 0xBFFB, 0xBFFB, 0xBFFB, 0xBFFB, 0xBFFB, 0xBFFB,
+    0xBFFB, 0xBFFB, 0xBFFB, 0xBFFB, 0xBFFB, 0xBFFB, 0xBFFB, 0xBFE0, 0xBFE0, 0xBFE0, 0xBFE0, 0xBFE3,
+    0xBFE1, 0xBFFB, 0xBFFB, 0xBFFB, 0xBFFB, 0xBFFB, 0xBFFB, 0xBFFB, 0xBFFB, 0xBFFB, 0xBFFB, 0xBFFB,
+    0xBFFB, 0xBFFB, 0xBFFB, 0xBFFB, 0xBFFB, 0xBFFB, 0xBFFB, 0xBFFB, 0xBFFB, 0xBFFB, 0xBFFB, 0xBFFB,
+    0xBFFB, 0xBFFB, 0xBFFB, 0xBFE0, 0xBFE0, 0xBFE0, 0xBFE1, 0xB1E0, 0xBFE0, 0xBFE0, 0xBFE0, 0xBFE0,
+    0xBFE0, 0xBFE0, 0xBFE0, 0xBFE0, 0xBFE0, 0xBFE0, 0xBFE0, 0xBFE0, 0xBFE0, 0xBFE0, 0xBFE0, 0xBFE0,
+    0xBFE0, 0xBFE0, 0xBFE0, 0xBFE0, 0xBFE0, 0xBFE0, 0xBFE0, 0xBFE0, 0xBFE0, 0xBFE0, 0xBFE0, 0xBFE0,
+    0xBFE0, 0xBFE0, 0xBFE0, 0xBFE0, 0xBFE0, 0xBFE0, 0xBFE0, 0xBFE0, 0xBFE0, 0xBFE0, 0xBFE0, 0xBFE0,
+    0xBFE0, 0xBFE0, 0xBFE0, 0xBFE0, 0xBFE0, 0xBFE0, 0xBFE0, 0xBFE0, 0xBFE0, 0xBFE0, 0xBFE0, 0xBFE0,
+    0xBFE0, 0xBFE0, 0xBFE0, 0xBFE0, 0xBFE0, 0xBFE0, 0xBFE0, 0xBFE0, 0xBFE0, 0xBFE0, 0xBFE0, 0xBFE0,
+    0xBFE0, 0xBFE0, 0xBFE0, 0xBFE0, 0xBFE0, 0xBFE0, 0xBFE0, 0xBFE0, 0xBFE0, 0xBFE0, 0xBFE0, 0xBFE0,
+    0xBFE0, 0xBFE0, 0xBFE0, 0xBFE0, 0xBFE0, 0xBFE0, 0xBFE0, 0xBFE0, 0xBFE0, 0xBFE0, 0xBFE0, 0xBFE0,
+    0xBFE0, 0xBFE0, 0xBFE0, 0xBFE0, 0xBFE0, 0xBFE0, 0xBFE0, 0xBFE0, 0xBFE0, 0xBFE0, 0xBFE0, 0xBFE0,
+    0xBFE0, 0xBFE0, 0xBFE0, 0xBFE0, 0xBFE0, 0xBFE0, 0xBFE0, 0xBFE0, 0xBFE0, 0xBFE0, 0xBFE0, 0xBFE0,
+    0xBFE0, 0xBFE0, 0xBFE0, 0xBFE0, 0xBFE0, 0xBFE0, 0xBFE0, 0xBFE0, 0xBFE0, 0xBFE0, 0xBFE0, 0xBFE0,
+    0xBFE0, 0xBFE0, 0xBFE0, 0xBFE0,
+];
 
 /// A class of bytes of which the grammar has runs.
+///
+/// ```
+/// let text = b"SIP/2.0 180 Ringing";
+/// let code = word_at(text, 0, b"sip/2.0").and_then(|end| byte_end(text, end, b' ')); // Some(8)
+/// number_at(text, 8, 3); // Some((180, 11))
+/// word_end(text, 12, Class::Token); // Some(19)
+/// word_end(text, 11, Class::Token); // None: a SP stands there
+/// ```
 #[derive(Clone, Copy, Debug, PartialEq, Eq)]
 pub enum Class {
     /// A letter, a digit, or one of ``-.!%*_+`'~``: the bytes of a token.
@@ -44,29 +66,42 @@ pub enum Class {
     BeforeAt,
     /// All bytes but those of LWS: those of a Call-ID.
     Unbroken,
+    /// SP and HTAB.
+    Wsp,
+    /// All bytes but NUL, CR and LF: those of a line.
+    InLine,
 }
 
 impl Class {
     /// Whether the byte is of this class.
-    #[tactic(auto, unfolding(crate::specs::Bytes::has))]
+    #[tactic(auto, using(crate::proofs::ClassTable::table_shows))]
     pub fn has(self, b: u8) -> bool
         ensures { result ≡ has self b }
     {
+        CLASSES[b as usize] & self.bit() != 0
+    }
+
+    /// The bit of this class in the table.
+    fn bit(self) -> u16
+        ensures { result ≡ class_bit self }
+    {
         match self {
-            Class::Token => b.is_ascii_alphanumeric() || b"-.!%*_+`'~".contains(&b),
-            Class::Name => b.is_ascii_alphanumeric() || b"-._".contains(&b),
-            Class::Digit => b.is_ascii_digit(),
-            Class::Letter => b.is_ascii_alphabetic(),
-            Class::Scheme => b.is_ascii_alphanumeric() || b"+-.".contains(&b),
-            Class::Value => !b";,\"<> \t\r\n".contains(&b),
-            Class::UriValue => !b";,\"<> \t?".contains(&b),
-            Class::Bare => !b";,<> \t\r\n".contains(&b),
-            Class::InBrackets => b != b'>',
-            Class::Visible => is_visible(b),
-            Class::User => is_visible(b) && !b":@".contains(&b),
-            Class::Password => is_visible(b) && b != b'@',
-            Class::BeforeAt => b != b'@',
-            Class::Unbroken => !b" \t\r\n".contains(&b),
+            Class::Token => 0x0001,
+            Class::Name => 0x0002,
+            Class::Digit => 0x0004,
+            Class::Letter => 0x0008,
+            Class::Scheme => 0x0010,
+            Class::Value => 0x0020,
+            Class::UriValue => 0x0040,
+            Class::Bare => 0x0080,
+            Class::InBrackets => 0x0100,
+            Class::Visible => 0x0200,
+            Class::User => 0x0400,
+            Class::Password => 0x0800,
+            Class::BeforeAt => 0x1000,
+            Class::Unbroken => 0x2000,
+            Class::Wsp => 0x4000,
+            Class::InLine => 0x8000,
         }
     }
 }

@@ -1,10 +1,11 @@
+//! Parameters (RFC 3261, section 25.1: generic-param).
 ghost use Rattle.std.specs.Prelude.{◌≡◌, ◌≤◌, ◌<◌, ℕ, length, IfSome, option_map};
 ghost use Rattle.sip_words.specs.Spans.{HasParts, KnownHaveParts};
 ghost use Rattle.sip_words.specs.Params.{value_class, value_end, param_at, first_of, no_params, with_param, params_at, known};
 
 use crate::Span;
 use crate::bytes::Class;
-use crate::marks::{Mark, Setting, mark_at};
+use crate::separators::{Separator, Surroundings, separator_at};
 use crate::words::{quoted_end, same_word, stands, word_end};
 
 /// A parameter: `whole` is from its semicolon to its end, `value` is what stands behind its `=`, quotes included.
@@ -27,35 +28,35 @@ pub struct Params {
 }
 
 /// The class of a value without quotes.
-fn value_class(setting: Setting) -> Class
-    ensures { result ≡ value_class setting }
+fn value_class(surroundings: Surroundings) -> Class
+    ensures { result ≡ value_class surroundings }
 {
-    match setting {
-        Setting::Field => Class::Value,
-        Setting::Uri => Class::UriValue,
+    match surroundings {
+        Surroundings::Field => Class::Value,
+        Surroundings::Uri => Class::UriValue,
     }
 }
 
 /// The end of a parameter's value: a quoted string, or one or more bytes of the class.
 #[tactic(auto, unfolding(crate::specs::Params::value_end))]
-fn value_end(text: &[u8], from: usize, setting: Setting) -> Option<usize>
+fn value_end(text: &[u8], from: usize, surroundings: Surroundings) -> Option<usize>
     requires { from ≤ length text.now }
-    ensures value { result ≡ value_end setting text.now from }
+    ensures value { result ≡ value_end surroundings text.now from }
     ensures bounds { IfSome result (λ end. (from < end) × (end ≤ length text.now)) }
 {
     if stands(text, from, b'"') {
         quoted_end(text, from + 1)
     } else {
-        word_end(text, from, value_class(setting))
+        word_end(text, from, value_class(surroundings))
     }
 }
 
 /// The parameter behind this semicolon.
 #[tactic(auto, unfolding(crate::specs::Params::param_at))]
-pub fn param_at(text: &[u8], semicolon: Mark, setting: Setting) -> Option<Param>
+pub fn param_at(text: &[u8], semicolon: Separator, surroundings: Surroundings) -> Option<Param>
     requires order { semicolon.place < semicolon.end }
     requires within { semicolon.end ≤ length text.now }
-    ensures value { result ≡ param_at setting text.now semicolon }
+    ensures value { result ≡ param_at surroundings text.now semicolon }
     ensures bounds { IfSome result (λ p. semicolon.end < p.whole.to) }
     ensures parts { IfSome result (HasParts semicolon.place (length text.now)) }
 {
@@ -67,7 +68,7 @@ pub fn param_at(text: &[u8], semicolon: Mark, setting: Setting) -> Option<Param>
     let mut end = name_end;
     let mut value = None;
     if stands(text, name_end, b'=') {
-        end = value_end(text, name_end + 1, setting)?;
+        end = value_end(text, name_end + 1, surroundings)?;
         value = Some(Span {
             from: name_end + 1,
             to: end,
@@ -93,15 +94,15 @@ fn first_of(known: Option<Param>, text: &[u8], param: Param, name: &[u8]) -> Opt
 }
 
 /// The parameters from `from` on, each behind a semicolon. None where something else stands behind a semicolon.
-pub fn params_at(text: &[u8], from: usize, setting: Setting) -> Option<Params>
+pub fn params_at(text: &[u8], from: usize, surroundings: Surroundings) -> Option<Params>
     requires { from ≤ length text.now }
-    ensures value { result ≡ option_map (known text.now) (params_at setting text.now from) }
+    ensures value { result ≡ option_map (known text.now) (params_at surroundings text.now from) }
     ensures bounds { IfSome result (λ p. (from ≤ p.end) × (p.end ≤ length text.now)) }
     ensures parts { IfSome result (KnownHaveParts from (length text.now)) }
 {
     let mut found = Params::none(from);
-    while let Some(semicolon) = mark_at(text, found.end, b';', setting) {
-        let param = param_at(text, semicolon, setting)?;
+    while let Some(semicolon) = separator_at(text, found.end, b';', surroundings) {
+        let param = param_at(text, semicolon, surroundings)?;
         found = found.with(text, param);
     }
     Some(found)

@@ -1,10 +1,11 @@
+//! Words: where what stands at a place ends.
 ghost use Rattle.std.specs.Prelude.{◌≡◌, ◌≤◌, length, IfSome, IsTrue, ◌<◌, ◌+◌};
 ghost use Rattle.std.specs.List.{list_all};
 ghost use Rattle.std.specs.Str.{str_eq_ignore_ascii_case};
 ghost use Rattle.sip_words.specs.Bytes.{has};
-ghost use Rattle.sip_words.specs.Words.{run_end, word_end, blank_len, lws_end, gap_end, quoted_end, stands, word_at};
+ghost use Rattle.sip_words.specs.Words.{run_end, word_end, blank_len, lws_end, gap_end, quoted_end, stands, byte_end, word_at};
 
-use crate::bytes::{Class, is_wsp};
+use crate::bytes::Class;
 
 /// Where the longest run of bytes of a class from `from` on ends.
 #[tactic(auto, using(crate::proofs::Runs::run_stops, crate::proofs::Runs::run_goes, crate::proofs::Runs::run_all))]
@@ -107,6 +108,19 @@ pub fn stands(text: &[u8], at: usize, byte: u8) -> bool
     match text.get(at) {
         Some(found) => *found == byte,
         None => false,
+    }
+}
+
+/// The place behind this byte, where it stands at `at`.
+#[tactic(auto, unfolding(crate::specs::Words::byte_end))]
+pub fn byte_end(text: &[u8], at: usize, byte: u8) -> Option<usize>
+    ensures value { result ≡ byte_end byte text.now at }
+    ensures bounds { IfSome result (λ end. (at < end) × (end ≤ length text.now)) }
+{
+    if stands(text, at, byte) {
+        Some(at + 1)
+    } else {
+        None
     }
 }
 

@@ -6,8 +6,11 @@
 //! made, so no later call can want any.
 #![tactic(auto)]
 
+pub mod laws;
+mod record;
 mod wheel;
 
+pub use record::WheelRecord;
 pub use wheel::{Timer, Wheel};
 
 #[cfg(test)]

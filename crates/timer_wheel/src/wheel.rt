@@ -1,6 +1,8 @@
 //! The wheel.
 ghost use Rattle.std.specs.Prelude.{◌≡◌, ℕ, ◌^◌, ◌<◌, ◌≤◌, Some, None, Option, List, IfOk, IfSome, IfNone, IsTrue, ◌↔◌, MatchOption, length, replicate, slice_set};
 ghost use Rattle.timer_wheel.specs.Timers.{IsFirst, IsIdle, IsLeastDue, NoneIsDue};
+ghost use Rattle.timer_wheel.specs.Records.{WheelStep};
+ghost use Rattle.timer_wheel.specs.declared.record.WheelRecord.TheVariants as recorded;
 
 use std::alloc::{AllocError as NoMemory, Global};
 use std::marker::Model;
@@ -44,7 +46,8 @@ impl Wheel {
     /// Sets the slot's timer, in place of the one that it may have had.
     pub fn set(&mut self, slot: u32, generation: u64, due: u64)
         requires { slot < length self.old }
-        ensures { self.new ≡ slice_set self.old slot (Some (record { generation = generation; due = due })) }
+        ensures set { self.new ≡ slice_set self.old slot (Some (record { generation = generation; due = due })) }
+        ensures step { WheelStep self.old (recorded.Set slot (record { generation = generation; due = due })) self.new }
     {
         self.timers[slot as usize] = Some(Timer { generation, due });
     }
@@ -52,7 +55,8 @@ impl Wheel {
     /// Takes away the slot's timer, if it has one.
     pub fn clear(&mut self, slot: u32)
         requires { slot < length self.old }
-        ensures { self.new ≡ slice_set self.old slot None }
+        ensures cleared { self.new ≡ slice_set self.old slot None }
+        ensures step { WheelStep self.old (recorded.Clear slot) self.new }
     {
         self.timers[slot as usize] = None;
     }
@@ -69,6 +73,7 @@ impl Wheel {
         ensures none_is_due { IfNone result (NoneIsDue self.old now) }
         ensures unchanged { IfNone result (self.new ≡ self.old) }
         ensures slots { length self.new ≡ length self.old }
+        ensures step { WheelStep self.old (recorded.Pop now result) self.new }
     {
         let (slot, timer) = first(self.timers.as_slice())?;
         if timer.due > now {
@@ -82,6 +87,7 @@ impl Wheel {
     pub fn next_due(&self) -> Option<u64>
         ensures least { IfSome result (IsLeastDue self.now) }
         ensures idle { IfNone result (IsIdle self.now) }
+        ensures step { WheelStep self.now (recorded.Next result) self.now }
     {
         let (_, timer) = first(self.timers.as_slice())?;
         Some(timer.due)

@@ -9,7 +9,7 @@ use Rattle.txn_client.specs.declared.machine.ClientState.TheVariants.{Calling, T
 use Rattle.txn_client.specs.Rows
 use Rattle.txn_client.specs.Rows.{ClientRow, ClientStep, silent, new_client}
 use Rattle.txn_client.specs.Runs
-use Rattle.txn_client.specs.Runs.{Made, ClientRun, Settles, HasTimersOf, is_final, is_accepted}
+use Rattle.txn_client.specs.Runs.{Made, ClientRun, Settles, HasTimersOf, WaitsToEnd, is_final, is_accepted}
 use Rattle.txn_client.specs.After.{made_at}
 use Rattle.txn_client.proofs.Table.{row_made, either}
 
@@ -213,3 +213,38 @@ run_timers invite _ _ (Runs.goes_on steps old event now new acts run step) = ste
 
 pub timers : (invite : Bool) (steps : List Made) (c : Client) → ClientRun invite steps c → HasTimersOf invite c.state c
 timers invite steps c run = subst (λ i. HasTimersOf i c.state c) (run_invite invite steps c run) (run_timers invite steps c run)
+
+-- the timer that ends the transaction
+in_state : (x : Client) (old state : ClientState) → old ≡ state → WaitsToEnd state x → WaitsToEnd old x
+in_state x old state here h = subst (λ t. WaitsToEnd t x) (sym here) h
+
+row_ends : (old : Client) (now : ℕ) (event : ClientEvent) (new : Client) (acts : ClientActs) → ClientRow old now event new acts →
+    WaitsToEnd old.state old → WaitsToEnd new.state new
+row_ends old now _ new _ (Rows.calling_start here) h = in_state _ old.state Calling here.1 tt
+row_ends old now _ new _ (Rows.calling_a here due) h = in_state _ old.state Calling here.1 tt
+row_ends old now _ new _ (Rows.calling_b here due) h = tt
+row_ends old now _ new _ (Rows.early_1xx here) h = tt
+row_ends old now _ new _ (Rows.early_2xx here) h = refl
+row_ends old now _ new _ (Rows.early_failure here) h = refl
+row_ends old now _ new _ (Rows.completed_failure here) h = h
+row_ends old now _ new _ (Rows.completed_d here due) h = tt
+row_ends old now _ new _ (Rows.accepted_2xx here) h = h
+row_ends old now _ new _ (Rows.accepted_m here due) h = tt
+row_ends old now _ new _ (Rows.trying_start here) h = in_state _ old.state Trying here.1 tt
+row_ends old now _ new _ (Rows.trying_e here due) h = in_state _ old.state Trying here.1 tt
+row_ends old now _ new _ (Rows.proceeding_e here due) h = in_state _ old.state Proceeding here.1 tt
+row_ends old now _ new _ (Rows.waiting_f here due) h = tt
+row_ends old now _ new _ (Rows.waiting_1xx here) h = tt
+row_ends old now _ new _ (Rows.waiting_2xx here) h = refl
+row_ends old now _ new _ (Rows.waiting_failure here) h = refl
+row_ends old now _ new _ (Rows.completed_k here due) h = tt
+
+step_ends : (old : Client) (now : ℕ) (event : ClientEvent) (new : Client) (acts : ClientActs) → ClientStep old event now new acts →
+    WaitsToEnd old.state old → WaitsToEnd new.state new
+step_ends old now event new acts (inl row) h = row_ends old now event new acts row h
+step_ends old now event new acts (inr none) h = subst (λ (c : Client). WaitsToEnd c.state c) (sym none.1) h
+
+pub ends : (invite : Bool) (steps : List Made) (c : Client) → ClientRun invite steps c → WaitsToEnd c.state c
+ends true _ _ Runs.begins = tt
+ends false _ _ Runs.begins = tt
+ends invite _ _ (Runs.goes_on steps old event now new acts run step) = step_ends old now event new acts step (ends invite steps old run)

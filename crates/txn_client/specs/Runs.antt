@@ -1,5 +1,5 @@
 -- Runs of a client from its beginning.
-use Rattle.std.specs.Prelude.{◌≡◌, ℕ, ◌⊎◌, Bool, true, false, List, [], ◌∷◌, None}
+use Rattle.std.specs.Prelude.{◌≡◌, ℕ, ◌⊎◌, Bool, true, false, List, [], ◌∷◌, None, IsSome}
 use Rattle.txn_client.specs.declared.machine.Client.{Client}
 use Rattle.txn_client.specs.declared.machine.ClientActs.{ClientActs}
 use Rattle.txn_client.specs.declared.machine.ClientEvent.{ClientEvent}
@@ -52,3 +52,12 @@ HasTimersOf false Proceeding c = c.linger ≡ None
 HasTimersOf invite Accepted c = (c.retry ≡ None) × (c.limit ≡ None)
 HasTimersOf invite Completed c = (c.retry ≡ None) × (c.limit ≡ None)
 HasTimersOf invite Terminated c = (c.retry ≡ None) × (c.limit ≡ None) × (c.linger ≡ None)
+
+-- a state in which a final answer was got has the timer armed that ends the transaction: D or K in Completed, M in Accepted
+abbrev pub WaitsToEnd : ClientState → Client → Type 0
+WaitsToEnd Accepted c = IsSome c.linger
+WaitsToEnd Completed c = IsSome c.linger
+WaitsToEnd Calling c = Unit {0}
+WaitsToEnd Trying c = Unit {0}
+WaitsToEnd Proceeding c = Unit {0}
+WaitsToEnd Terminated c = Unit {0}

@@ -8,7 +8,7 @@ ghost use Rattle.txn_client.specs.declared.machine.ClientEvent.{ClientEvent};
 ghost use Rattle.txn_client.specs.declared.machine.ClientState.TheVariants.{Calling, Terminated};
 ghost use Rattle.txn_client.specs.Rows.{ClientRow, ClientStep, silent};
 ghost use Rattle.txn_client.specs.After.{client_after};
-ghost use Rattle.txn_client.specs.Runs.{Made, ClientRun, Settles, HasTimersOf};
+ghost use Rattle.txn_client.specs.Runs.{Made, ClientRun, Settles, HasTimersOf, WaitsToEnd};
 
 /// For every client, event and moment the table has one row or none, so that there is one step, which `client_after` gives.
 pub fn each_event_makes_one_step()
@@ -41,4 +41,9 @@ pub fn settled_once()
 /// In every state only the timers of that state are armed, and in Terminated none is.
 pub fn timers_of_each_state()
     ensures { (invite : Bool) (steps : List Made) (c : Client) → ClientRun invite steps c → HasTimersOf invite c.state c }
+{}
+
+/// Where a final answer came, the timer is armed that ends the transaction.
+pub fn an_answered_transaction_ends()
+    ensures { (invite : Bool) (steps : List Made) (c : Client) → ClientRun invite steps c → WaitsToEnd c.state c }
 {}

@@ -9,7 +9,7 @@ use Rattle.txn_server.specs.declared.machine.ServerState.TheVariants.{Trying, Pr
 use Rattle.txn_server.specs.Rows
 use Rattle.txn_server.specs.Rows.{ServerRow, ServerStep, silent, sends, new_server, IsProvisional, IsSuccess, IsFailure, IsFinal}
 use Rattle.txn_server.specs.Runs
-use Rattle.txn_server.specs.Runs.{Made, ServerRun, code_sent, codes_sent, IsAnswered, HasSent, IsLast, HasTimersOf}
+use Rattle.txn_server.specs.Runs.{Made, ServerRun, code_sent, codes_sent, IsAnswered, HasSent, IsLast, HasTimersOf, WaitsToEnd}
 use Rattle.txn_server.specs.After.{made_at}
 use Rattle.txn_server.proofs.Table.{row_made, either}
 
@@ -322,3 +322,35 @@ pub timers : (invite : Bool) (steps : List Made) (s : Server) → ServerRun invi
 timers true _ _ Runs.begins = (refl, refl)
 timers false _ _ Runs.begins = (refl, refl)
 timers invite _ _ (Runs.goes_on steps old event now new acts run step) = step_timers old now event new acts step (timers invite steps old run)
+
+-- the timer that ends the transaction
+row_ends : (old : Server) (now : ℕ) (event : ServerEvent) (new : Server) (acts : ServerActs) → ServerRow old now event new acts →
+    WaitsToEnd old.state old → WaitsToEnd new.state new
+row_ends old now _ new _ (Rows.proceeding_copy here said) h = h
+row_ends old now _ new _ (Rows.proceeding_1xx code is here) h = tt
+row_ends old now _ new _ (Rows.proceeding_2xx code is here) h = refl
+row_ends old now _ new _ (Rows.proceeding_failure code is here) h = refl
+row_ends old now _ new _ (Rows.completed_copy here) h = h
+row_ends old now _ new _ (Rows.completed_g here due) h =
+    let at : WaitsToEnd Completed old = subst (λ t. WaitsToEnd t old) here.1 h in subst (λ t. WaitsToEnd t new) (sym here.1) at
+row_ends old now _ new _ (Rows.completed_ack here) h = refl
+row_ends old now _ new _ (Rows.completed_h here due) h = tt
+row_ends old now _ new _ (Rows.confirmed_i here due) h = tt
+row_ends old now _ new _ (Rows.late_2xx code is here) h = h
+row_ends old now _ new _ (Rows.accepted_2xx code is here) h = h
+row_ends old now _ new _ (Rows.accepted_ack here) h = h
+row_ends old now _ new _ (Rows.accepted_l here due) h = tt
+row_ends old now _ new _ (Rows.open_1xx code is here) h = tt
+row_ends old now _ new _ (Rows.open_final code is here) h = refl
+row_ends old now _ new _ (Rows.answered_copy here) h = h
+row_ends old now _ new _ (Rows.completed_j here due) h = tt
+
+step_ends : (old : Server) (now : ℕ) (event : ServerEvent) (new : Server) (acts : ServerActs) → ServerStep old event now new acts →
+    WaitsToEnd old.state old → WaitsToEnd new.state new
+step_ends old now event new acts (inl row) h = row_ends old now event new acts row h
+step_ends old now event new acts (inr none) h = subst (λ (s : Server). WaitsToEnd s.state s) (sym none.1) h
+
+pub ends : (invite : Bool) (steps : List Made) (s : Server) → ServerRun invite steps s → WaitsToEnd s.state s
+ends true _ _ Runs.begins = tt
+ends false _ _ Runs.begins = tt
+ends invite _ _ (Runs.goes_on steps old event now new acts run step) = step_ends old now event new acts step (ends invite steps old run)

@@ -1,5 +1,5 @@
 -- Runs of a server from its beginning, and the answers that it sends.
-use Rattle.std.specs.Prelude.{◌≡◌, ◌≢◌, ℕ, Bool, true, false, List, [], ◌∷◌, ◌++◌, None}
+use Rattle.std.specs.Prelude.{◌≡◌, ◌≢◌, ℕ, Bool, true, false, List, [], ◌∷◌, ◌++◌, None, IsSome}
 use Rattle.std.specs.List.{AllByRecursion}
 use Rattle.txn_server.specs.declared.machine.Server.{Server}
 use Rattle.txn_server.specs.declared.machine.ServerActs.{ServerActs}
@@ -70,3 +70,13 @@ HasTimersOf Accepted s = s.retry ≡ None
 HasTimersOf Completed s = (s.invite ≡ false) → s.retry ≡ None
 HasTimersOf Confirmed s = s.retry ≡ None
 HasTimersOf Terminated s = (s.retry ≡ None) × (s.end ≡ None)
+
+-- a state in which a final answer was sent has the timer armed that ends the transaction: L in Accepted, H or J in
+-- Completed, I in Confirmed
+abbrev pub WaitsToEnd : ServerState → Server → Type 0
+WaitsToEnd Accepted s = IsSome s.end
+WaitsToEnd Completed s = IsSome s.end
+WaitsToEnd Confirmed s = IsSome s.end
+WaitsToEnd Trying s = Unit {0}
+WaitsToEnd Proceeding s = Unit {0}
+WaitsToEnd Terminated s = Unit {0}

@@ -8,7 +8,7 @@ ghost use Rattle.txn_server.specs.declared.machine.ServerEvent.{ServerEvent};
 ghost use Rattle.txn_server.specs.declared.machine.ServerState.TheVariants.{Accepted, Proceeding, Completed, Terminated};
 ghost use Rattle.txn_server.specs.Rows.{ServerRow, ServerStep, IsProvisional, IsFailure, silent, sends};
 ghost use Rattle.txn_server.specs.After.{server_after};
-ghost use Rattle.txn_server.specs.Runs.{Made, ServerRun, codes_sent, HasSent, IsLast, HasTimersOf};
+ghost use Rattle.txn_server.specs.Runs.{Made, ServerRun, codes_sent, HasSent, IsLast, HasTimersOf, WaitsToEnd};
 
 /// For every server, event and moment the table has one row or none, so that there is one step, which `server_after` gives.
 pub fn each_event_makes_one_step()
@@ -54,4 +54,9 @@ pub fn nothing_is_repeated_in_accepted()
 /// In every state only the timers of that state are armed, and in Terminated none is.
 pub fn timers_of_each_state()
     ensures { (invite : Bool) (steps : List Made) (s : Server) → ServerRun invite steps s → HasTimersOf s.state s }
+{}
+
+/// Where a final answer was sent, the timer is armed that ends the transaction.
+pub fn an_answered_transaction_ends()
+    ensures { (invite : Bool) (steps : List Made) (s : Server) → ServerRun invite steps s → WaitsToEnd s.state s }
 {}

@@ -2,13 +2,13 @@
 use Rattle.std.specs.Prelude.{◌≡◌, ℕ, ◌+◌, ◌≤◌, min, List, Some, None, slice_get, slice_set, replicate}
 use Rattle.std.specs.Option.{option_map_or}
 use Rattle.server_key.specs.declared.key.Key.{Key}
-use Rattle.txn_store.specs.declared.index.Place.{Place}
+use Rattle.txn_store.specs.declared.index.IndexPlace.{IndexPlace}
 use Rattle.txn_store.specs.declared.index.IndexEnd.{IndexEnd}
 use Rattle.txn_store.specs.declared.index.IndexEnd.TheVariants.{Old, New, Full}
 
 -- by the number of each slot, its generation and the key that it holds, if any
 abbrev pub Places : Type 0
-Places = List Place
+Places = List IndexPlace
 
 -- no slot holds a key, and each is of this generation
 abbrev pub vacant_places_of : ℕ → ℕ → Places
@@ -19,17 +19,17 @@ abbrev pub vacant_places : ℕ → Places
 vacant_places slots = vacant_places_of slots 0
 
 -- the slot is of this generation and holds the key
-abbrev pub Holds : Places → ℕ → ℕ → Key → Type 0
-Holds places slot generation key = slice_get places slot ≡ Some (record { generation = generation; key = Some key })
+abbrev pub HoldsKey : Places → ℕ → ℕ → Key → Type 0
+HoldsKey places slot generation key = slice_get places slot ≡ Some (record { generation = generation; key = Some key })
 
 -- no slot holds the key
 abbrev pub IsHeldNowhere : Places → Key → Type 0
-IsHeldNowhere places key = (slot generation : ℕ) → ¬ Holds places slot generation key
+IsHeldNowhere places key = (slot generation : ℕ) → ¬ HoldsKey places slot generation key
 
 -- no key is held by two slots
 abbrev pub EachKeyIsOnce : Places → Type 0
 EachKeyIsOnce places = (slot generation other other_generation : ℕ) (key : Key)
-    → Holds places slot generation key → Holds places other other_generation key → slot ≡ other
+    → HoldsKey places slot generation key → HoldsKey places other other_generation key → slot ≡ other
 
 -- the slot is of this generation and holds no key
 abbrev pub IsFree : Places → ℕ → ℕ → Type 0
@@ -50,7 +50,7 @@ SomeIsFree places = (slot : ℕ) × (generation : ℕ) × IsFree places slot gen
 
 -- what a claim of the key answers: the slot that holds it; else the lowest one that holds no key; else Full
 abbrev pub ClaimAnswers : Places → Key → IndexEnd → Type 0
-ClaimAnswers places key (Old slot generation) = Holds places slot generation key
+ClaimAnswers places key (Old slot generation) = HoldsKey places slot generation key
 ClaimAnswers places key (New slot generation) = IsHeldNowhere places key × IsLowestFree places slot generation
 ClaimAnswers places key Full = IsHeldNowhere places key × NoneIsFree places
 
@@ -61,7 +61,7 @@ after_claim places key (New slot generation) = slice_set places slot (record { g
 after_claim places key Full = places
 
 -- a slot without its key, of the next generation. The greatest u64 has no next one
-abbrev pub freed : Place → Place
+abbrev pub freed : IndexPlace → IndexPlace
 freed place = record { generation = min (place.generation + 1) 18446744073709551615; key = None }
 
 -- what is left where the slot is freed

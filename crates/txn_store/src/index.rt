@@ -20,14 +20,14 @@ pub enum IndexEnd {
 
 /// A slot's place in the index.
 #[derive(Debug, Drop)]
-pub struct Place {
+pub struct IndexPlace {
     /// How often the slot was freed. At the greatest u64 it stands still.
     pub generation: u64,
     /// The key of its transaction.
     pub key: Option<Key>,
 }
 
-impl Place {
+impl IndexPlace {
     /// Whether the slot holds the key.
     pub(crate) fn holds(&self, key: KeyView) -> bool
         ensures { IsTrue result ↔ (self.now.key ≡ Some (shown_key key.entry)) }
@@ -43,14 +43,14 @@ impl Place {
 /// holds. A clause sees the list of their places.
 #[derive(Drop)]
 pub struct Index {
-    places: Vec<Place>,
+    places: Vec<IndexPlace>,
 }
 
 impl Model for Index {
     ghost use Rattle.std.specs.Prelude.{List, ◌<◌, ◌^◌, length};
-    ghost use Rattle.txn_store.specs.declared.index.Place.{Place};
+    ghost use Rattle.txn_store.specs.declared.index.IndexPlace.{IndexPlace};
 
-    ghost Value = { List Place };
+    ghost Value = { List IndexPlace };
 
     ghost use Rattle.txn_store.specs.Places.{EachKeyIsOnce};
 
@@ -60,7 +60,9 @@ impl Model for Index {
 }
 
 impl Index {
-    ghost use Rattle.txn_store.specs.Places.{vacant_places, vacant_places_of, Holds, IsHeldNowhere, SomeIsFree, EachKeyIsOnce, ClaimAnswers, after_claim, after_free};
+    ghost use Rattle.txn_store.specs.Places.{vacant_places, vacant_places_of, HoldsKey, IsHeldNowhere, SomeIsFree, EachKeyIsOnce, ClaimAnswers, after_claim, after_free};
+    ghost use Rattle.txn_store.specs.Records.{IndexStep};
+    ghost use Rattle.txn_store.specs.declared.record.IndexRecord.TheVariants as recorded;
 
     /// An index of this many slots, which hold no key and are of generation 0.
     pub fn new(alloc: Global, slots: u32) -> Result<Index, NoMemory>
@@ -79,7 +81,7 @@ impl Index {
     {
         let mut places = Vec::with_capacity(alloc, slots as usize)?;
         for _slot in 0..slots {
-            places.push_reserved(Place {
+            places.push_reserved(IndexPlace {
                 generation,
                 key: None,
             });
@@ -98,13 +100,14 @@ impl Index {
 
         ensures slots { length self.new ≡ length self.old }
         ensures once { EachKeyIsOnce self.new }
+        ensures step { IndexStep self.old (recorded.Claim (shown_key key.entry) result) self.new }
     {
         let end = end_of_claim(self.places.as_slice(), key);
         let IndexEnd::New { slot, generation } = end else {
             return Ok(end);
         };
         let key = Key::copy_of(*self.places.allocator(), key)?;
-        self.places[slot as usize] = Place {
+        self.places[slot as usize] = IndexPlace {
             generation,
             key: Some(key),
         };
@@ -113,10 +116,11 @@ impl Index {
 
     /// The slot that holds the key, and its generation.
     pub fn find(&self, key: KeyView) -> Option<(u32, u64)>
-        ensures held { IfSome result (λ at. Holds self.now at.0 at.1 (shown_key key.entry)) }
+        ensures held { IfSome result (λ at. HoldsKey self.now at.0 at.1 (shown_key key.entry)) }
         ensures held_nowhere { IfNone result (IsHeldNowhere self.now (shown_key key.entry)) }
         ensures in_range { IfSome result (λ at. at.0 < length self.now) }
         ensures once { EachKeyIsOnce self.now }
+        ensures step { IndexStep self.now (recorded.Find (shown_key key.entry) result) self.now }
     {
         holder(self.places.as_slice(), key)
     }
@@ -128,6 +132,7 @@ impl Index {
         ensures after { self.new ≡ after_free self.old slot }
         ensures slots { length self.new ≡ length self.old }
         ensures once { EachKeyIsOnce self.new }
+        ensures step { IndexStep self.old (recorded.Free slot) self.new }
     {
         let place = &mut self.places[slot as usize];
         place.generation = place.generation.saturating_add(1);

@@ -4,9 +4,12 @@
 #![tactic(auto)]
 
 mod index;
+pub mod laws;
+mod record;
 mod scan;
 
-pub use index::{Index, IndexEnd, Place};
+pub use index::{Index, IndexEnd, IndexPlace};
+pub use record::IndexRecord;
 pub use server_key::{Key, KeyView};
 
 #[cfg(test)]

@@ -1,15 +1,15 @@
 //! What the slots hold, looked at one after the other.
 ghost use Rattle.std.specs.Prelude.{◌≡◌, ◌^◌, ◌<◌, ◌↔◌, IsTrue, IfSome, IfNone, length};
 ghost use Rattle.server_key.specs.Keys.{shown_key};
-ghost use Rattle.txn_store.specs.Places.{Holds, IsHeldNowhere, ClaimAnswers};
+ghost use Rattle.txn_store.specs.Places.{HoldsKey, IsHeldNowhere, ClaimAnswers};
 
-use crate::index::{IndexEnd, Place};
+use crate::index::{IndexEnd, IndexPlace};
 use server_key::KeyView;
 
 /// The slot that holds the key, and its generation.
-pub(crate) fn holder(places: &[Place], key: KeyView) -> Option<(u32, u64)>
+pub(crate) fn holder(places: &[IndexPlace], key: KeyView) -> Option<(u32, u64)>
     requires { length places.now < 2 ^ 32 }
-    ensures held { IfSome result (λ at. Holds places.now at.0 at.1 (shown_key key.entry)) }
+    ensures held { IfSome result (λ at. HoldsKey places.now at.0 at.1 (shown_key key.entry)) }
     ensures held_nowhere { IfNone result (IsHeldNowhere places.now (shown_key key.entry)) }
 {
     for (slot, place) in places.iter().enumerate() {
@@ -21,7 +21,7 @@ pub(crate) fn holder(places: &[Place], key: KeyView) -> Option<(u32, u64)>
 }
 
 /// What a claim of the key comes to. The places are walked once.
-pub(crate) fn end_of_claim(places: &[Place], key: KeyView) -> IndexEnd
+pub(crate) fn end_of_claim(places: &[IndexPlace], key: KeyView) -> IndexEnd
     requires { length places.now < 2 ^ 32 }
     ensures { ClaimAnswers places.now (shown_key key.entry) result }
 {

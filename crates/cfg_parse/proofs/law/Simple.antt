@@ -4,6 +4,7 @@ use Rattle.std.proofs.Common.{◌≡◌, refl, sym, subst, append_assoc}
 use Rattle.std.proofs.lemmas.Bool.{both_ways}
 use Rattle.pv_values.specs.declared.refusal.Place.{Place}
 use Rattle.cfg_tree.specs.declared.token.Token.{Token}
+use Rattle.cfg_tree.specs.declared.token.Keyword.{Keyword}
 use Rattle.cfg_tree.specs.declared.token.Keyword.TheVariants as word_is
 use Rattle.cfg_tree.specs.declared.token.Mark.TheVariants as mark
 use Rattle.cfg_tree.specs.declared.raw.RawVariable.{RawVariable}
@@ -14,8 +15,8 @@ use Rattle.cfg_tree.specs.declared.raw.RawStmt.TheViews.{roll-RawStmt}
 use Rattle.cfg_tree.specs.Tokens.{IsMark, IsKeyword, whole}
 use Rattle.cfg_tree.specs.Grammar as tree
 use Rattle.cfg_tree.specs.Grammar.{IsExpr, StmtIs}
-use Rattle.cfg_parse.specs.Reader.{place_since, sees_keyword}
-use Rattle.cfg_parse.specs.Stmts.{condition, assignment, call_alone, returned, return_of, exit_alone, drop_alone, break_alone, empty}
+use Rattle.cfg_parse.specs.Reader.{and_then, pure, place_since, sees_keyword}
+use Rattle.cfg_parse.specs.Stmts.{condition, assignment, call_alone, returned, return_of, alone, exit_alone, drop_alone, break_alone, empty}
 use Rattle.cfg_parse.proofs.law.Steps.{OnRead, found, and_so, Takes, mark_takes, keyword_takes, eaten}
 use Rattle.cfg_parse.proofs.law.OneToken.{VariableIs, variable_is, variable_takes}
 use Rattle.cfg_parse.proofs.law.Calls.{call_takes}
@@ -56,6 +57,23 @@ at_place room loop dangles make ts us rest e d f = record {
 pub simple : (room : ℕ) (loop : Bool) (make : Place → RawStmt) (ts us rest : List Token) → ts ≡ us ++ rest → StmtIs room loop false us (make (whole us)) → StmtFound room loop ts (make (place_since ts rest)) rest
 simple room loop make ts us rest e d = at_place room loop false make ts us rest e d (λ h. absurd (both_ways false refl h))
 
+-- a keyword and its semicolon
+record Alone (k : Keyword) (ts : List Token) (at : Place) (rest : List Token) : Type 0 where
+  pub word : Token
+  pub semicolon : Token
+  pub whole : ts ≡ word ∷ semicolon ∷ rest
+  pub is : IsKeyword k word
+  pub ends : IsMark mark.Semicolon semicolon
+  pub place : at ≡ place_since ts rest
+
+alone_takes : (k : Keyword) (ts : List Token) → OnRead (Alone k ts) (alone k ts)
+unfolding alone
+alone_takes k ts = and_so (keyword_takes k ts) (λ _ s t. and_so (mark_takes mark.Semicolon s) (λ _ rest c.
+    found (place_since ts rest) rest (record { word = t.token; semicolon = c.token; whole = cc; is = t.is; ends = c.is; place = refl })))
+
+alone_found : (room : ℕ) (loop : Bool) (make : Place → RawStmt) (k : Keyword) → ((t c : Token) → IsKeyword k t → IsMark mark.Semicolon c → StmtIs room loop false (t ∷ c ∷ []) (make (whole (t ∷ c ∷ [])))) → (ts : List Token) → OnRead (StmtFound room loop ts) (and_then (alone k ts) (λ at. pure (make at)))
+alone_found room loop make k is ts = and_so (alone_takes k ts) (λ at rest a. found (make at) rest (subst (λ (p : Place). StmtFound room loop ts (make p) rest) (sym a.place) (simple room loop make ts (a.word ∷ a.semicolon ∷ []) rest a.whole (is a.word a.semicolon a.is a.ends))))
+
 set_is : (room : ℕ) (loop : Bool) (t a c : Token) (ts : List Token) (v : RawVariable) (e : RawExpr) → VariableIs t v → IsMark mark.Assign a → IsExpr ts e → IsMark mark.Semicolon c → StmtIs (suc room) loop false (t ∷ a ∷ ts ++ c ∷ []) (roll-RawStmt (RawStmt-F.Set (whole (t ∷ a ∷ ts ++ c ∷ [])) v e))
 set_is room loop _ a c ts _ e (variable_is t v h) k d i = tree.assigned room loop (t ∷ a ∷ ts ++ c ∷ []) ts t a c v e refl h k d i
 
@@ -75,14 +93,10 @@ module _ (room : ℕ) (loop : Bool) where
       (tree.called room loop (d.front ++ c.token ∷ []) d.front c.token f refl d.is c.is))))
 
   pub exit_takes : (ts : List Token) → OnRead (StmtFound (suc room) loop ts) (exit_alone ts)
-  unfolding exit_alone
-  exit_takes ts = and_so (keyword_takes word_is.Exit ts) (λ _ s t. and_so (mark_takes mark.Semicolon s) (λ _ rest c.
-      found _ rest (simple (suc room) loop (λ at. roll-RawStmt (RawStmt-F.Exit at)) ts (t.token ∷ c.token ∷ []) rest (cc) (tree.exits room loop t.token c.token t.is c.is))))
+  exit_takes = alone_found (suc room) loop (λ at. roll-RawStmt (RawStmt-F.Exit at)) word_is.Exit (λ t c h k. tree.exits room loop t c h k)
 
   pub drop_takes : (ts : List Token) → OnRead (StmtFound (suc room) loop ts) (drop_alone ts)
-  unfolding drop_alone
-  drop_takes ts = and_so (keyword_takes word_is.Drop ts) (λ _ s t. and_so (mark_takes mark.Semicolon s) (λ _ rest c.
-      found _ rest (simple (suc room) loop (λ at. roll-RawStmt (RawStmt-F.Drop at)) ts (t.token ∷ c.token ∷ []) rest (cc) (tree.drops room loop t.token c.token t.is c.is))))
+  drop_takes = alone_found (suc room) loop (λ at. roll-RawStmt (RawStmt-F.Drop at)) word_is.Drop (λ t c h k. tree.drops room loop t c h k)
 
   pub empty_takes : (ts : List Token) → OnRead (StmtFound (suc room) loop ts) (empty ts)
   unfolding empty
@@ -90,9 +104,7 @@ module _ (room : ℕ) (loop : Bool) where
       found _ rest (simple (suc room) loop (λ at. roll-RawStmt (RawStmt-F.Empty at)) ts (c.token ∷ []) rest (cc) (tree.empty room loop c.token c.is)))
 
 pub break_takes : (room : ℕ) (ts : List Token) → OnRead (StmtFound (suc room) true ts) (break_alone ts)
-unfolding break_alone
-break_takes room ts = and_so (keyword_takes word_is.Break ts) (λ _ s t. and_so (mark_takes mark.Semicolon s) (λ _ rest c.
-    found _ rest (simple (suc room) true (λ at. roll-RawStmt (RawStmt-F.Break at)) ts (t.token ∷ c.token ∷ []) rest (cc) (tree.breaks room t.token c.token t.is c.is))))
+break_takes room = alone_found (suc room) true (λ at. roll-RawStmt (RawStmt-F.Break at)) word_is.Break (λ t c h k. tree.breaks room t c h k)
 
 -- ---- return
 

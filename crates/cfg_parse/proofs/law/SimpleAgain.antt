@@ -6,6 +6,7 @@ use Rattle.pv_values.specs.declared.refusal.Place.{Place}
 use Rattle.cfg_tree.specs.declared.token.Token.{Token}
 use Rattle.cfg_tree.specs.declared.token.Variable.{Variable}
 use Rattle.cfg_tree.specs.declared.token.Lexeme.TheVariants as lexeme
+use Rattle.cfg_tree.specs.declared.token.Keyword.{Keyword}
 use Rattle.cfg_tree.specs.declared.token.Keyword.TheVariants as word_is
 use Rattle.cfg_tree.specs.declared.token.Mark.TheVariants as mark
 use Rattle.cfg_tree.specs.declared.raw.RawCall.{RawCall}
@@ -17,7 +18,7 @@ use Rattle.cfg_tree.specs.Tokens.{IsA, IsMark, IsKeyword, whole}
 use Rattle.cfg_tree.specs.Grammar as tree
 use Rattle.cfg_tree.specs.Grammar.{IsExpr, CallIs, LabelIs}
 use Rattle.cfg_parse.specs.Reader.{Reader, place_since}
-use Rattle.cfg_parse.specs.Stmts.{condition, assignment, call_alone, returned, return_of, exit_alone, drop_alone, break_alone, empty, label_in, label, stmt_by, stmt_over}
+use Rattle.cfg_parse.specs.Stmts.{condition, assignment, call_alone, returned, return_of, alone, empty, label_in, label, stmt_by, stmt_over}
 use Rattle.cfg_parse.proofs.law.Steps.{read_then, mark_again, keyword_again, sees, eats, leaves, by_first}
 use Rattle.cfg_parse.proofs.law.OneToken.{variable_is, variable_again, one_again}
 use Rattle.cfg_parse.proofs.law.Calls.{call_again}
@@ -37,6 +38,10 @@ label_again _ c rest _ (tree.string_label t s h) k = read_then _ (one_again labe
 -- the place of what was read
 pub at_whole : (make : Place → RawStmt) (start us rest : List Token) → us ++ rest ≡ start → ◌≡◌ {A = Option (RawStmt × List Token)} (Some (make (place_since start rest), rest)) (Some (make (whole us), rest))
 at_whole make start us rest e = ap (λ (at : Place). Some (make at, rest)) (placed start us rest (sym e))
+
+alone_again : (k : Keyword) (t c : Token) (rest : List Token) → IsKeyword k t → IsMark mark.Semicolon c → alone k (t ∷ c ∷ rest) ≡ Some (whole (t ∷ c ∷ []), rest)
+unfolding alone
+alone_again k t c rest h d = read_then _ (keyword_again k t (c ∷ rest) h) (read_then _ (mark_again mark.Semicolon c rest d) (ap (λ (at : Place). Some (at, rest)) (placed (t ∷ c ∷ rest) (t ∷ c ∷ []) rest refl)))
 
 module _ (inner : Bool → Reader RawStmt) (loop : Bool) where
   pub set_again : (us ts : List Token) (t a c : Token) (v : Variable) (e : RawExpr) (rest : List Token) → us ≡ t ∷ a ∷ ts ++ c ∷ [] → IsA (lexeme.Variable v) t → IsMark mark.Assign a → IsExpr ts e → IsMark mark.Semicolon c → stmt_over inner loop (us ++ rest) ≡ Some (roll-RawStmt (RawStmt-F.Set (whole us) (record { variable = v; at = t.at }) e), rest)
@@ -82,16 +87,12 @@ module _ (inner : Bool → Reader RawStmt) (loop : Bool) where
       (at_whole (λ at. roll-RawStmt (RawStmt-F.Return at (Some e))) (r ∷ (ts ++ c ∷ rest)) us rest w)))
 
   pub exit_again : (t c : Token) (rest : List Token) → IsKeyword word_is.Exit t → IsMark mark.Semicolon c → stmt_over inner loop (t ∷ c ∷ rest) ≡ Some (roll-RawStmt (RawStmt-F.Exit (whole (t ∷ c ∷ []))), rest)
-  unfolding stmt_over exit_alone
-  exit_again t c rest h k = by_first (stmt_by inner loop) t (c ∷ rest) h
-      (read_then _ (keyword_again word_is.Exit t (c ∷ rest) h) (read_then _ (mark_again mark.Semicolon c rest k)
-      (at_whole (λ at. roll-RawStmt (RawStmt-F.Exit at)) (t ∷ c ∷ rest) (t ∷ c ∷ []) rest refl)))
+  unfolding stmt_over
+  exit_again t c rest h k = by_first (stmt_by inner loop) t (c ∷ rest) h (read_then _ (alone_again word_is.Exit t c rest h k) refl)
 
   pub drop_again : (t c : Token) (rest : List Token) → IsKeyword word_is.Drop t → IsMark mark.Semicolon c → stmt_over inner loop (t ∷ c ∷ rest) ≡ Some (roll-RawStmt (RawStmt-F.Drop (whole (t ∷ c ∷ []))), rest)
-  unfolding stmt_over drop_alone
-  drop_again t c rest h k = by_first (stmt_by inner loop) t (c ∷ rest) h
-      (read_then _ (keyword_again word_is.Drop t (c ∷ rest) h) (read_then _ (mark_again mark.Semicolon c rest k)
-      (at_whole (λ at. roll-RawStmt (RawStmt-F.Drop at)) (t ∷ c ∷ rest) (t ∷ c ∷ []) rest refl)))
+  unfolding stmt_over
+  drop_again t c rest h k = by_first (stmt_by inner loop) t (c ∷ rest) h (read_then _ (alone_again word_is.Drop t c rest h k) refl)
 
   pub empty_again : (c : Token) (rest : List Token) → IsMark mark.Semicolon c → stmt_over inner loop (c ∷ rest) ≡ Some (roll-RawStmt (RawStmt-F.Empty (whole (c ∷ []))), rest)
   unfolding stmt_over empty
@@ -100,7 +101,5 @@ module _ (inner : Bool → Reader RawStmt) (loop : Bool) where
       (at_whole (λ at. roll-RawStmt (RawStmt-F.Empty at)) (c ∷ rest) (c ∷ []) rest refl))
 
 pub break_again : (inner : Bool → Reader RawStmt) (t c : Token) (rest : List Token) → IsKeyword word_is.Break t → IsMark mark.Semicolon c → stmt_over inner true (t ∷ c ∷ rest) ≡ Some (roll-RawStmt (RawStmt-F.Break (whole (t ∷ c ∷ []))), rest)
-unfolding stmt_over break_alone
-break_again inner t c rest h k = by_first (stmt_by inner true) t (c ∷ rest) h
-    (read_then _ (keyword_again word_is.Break t (c ∷ rest) h) (read_then _ (mark_again mark.Semicolon c rest k)
-    (at_whole (λ at. roll-RawStmt (RawStmt-F.Break at)) (t ∷ c ∷ rest) (t ∷ c ∷ []) rest refl)))
+unfolding stmt_over
+break_again inner t c rest h k = by_first (stmt_by inner true) t (c ∷ rest) h (read_then _ (alone_again word_is.Break t c rest h k) refl)

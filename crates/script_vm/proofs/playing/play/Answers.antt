@@ -5,13 +5,13 @@ use Rattle.script_vm.proofs.Plays.{IsOn, on_more, on_needs, on_ends}
 use Rattle.script_vm.proofs.playing.play.Goals as goal
 
 pub answers-init : goal.answers-init
-answers-init c = record { patterns = c.in-Ok.ensures; within = omega arith; on = λ script stands. record { inner = _; waits = c.in-Ok-begin.ensures.waits script stands; same = refl } }
+answers-init c = record { patterns = c.in-Ok.ensures ∙ ap (λ l. l.patterns) c.loaded.view_is; within = omega arith; on = λ script stands. record { inner = _; waits = c.in-Ok-begin.ensures.waits script stands; same = refl } }
 
 pub returns-then-taken-answers : goal.returns-then-taken-answers
 returns-then-taken-answers c = λ script stands.
     let none : drop c.answers.taken c.args.answers.now ≡ [] = drop_all c.answers.taken c.args.answers.now c.if-taken-answers.true in
     on_needs _ c.answers.run c.advance.new.self c.answers.answer c.in-Ok-copied.ask c.args.answers.now (drop c.answers.taken c.args.answers.now) _ none (c.answers.invariant.on script stands)
-    (c.in-Asks.ensures.next c.answers.invariant.patterns) (c.in-Ok-copied.ensures ∙ c.asked.ensures)
+    (c.in-Asks.ensures.next c.answers.invariant.patterns) (c.in-Ok-copied.ensures ∙ c.asked.ensures.shows)
 
 pub returns-in-Ended : goal.returns-in-Ended
 returns-in-Ended c = λ script stands.

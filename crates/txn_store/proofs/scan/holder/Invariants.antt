@@ -1,7 +1,7 @@
 use Rattle.std.proofs.Common.{ℕ, ◌≤◌}
 use Rattle.server_key.specs.Keys.{shown_key}
-use Rattle.txn_store.specs.Places.{Holds}
+use Rattle.txn_store.specs.Places.{HoldsKey}
 use Rattle.txn_store.proofs.scan.holder.Given as goal
 
 abbrev pub invariant-loop-slot : goal.invariant-loop-slot
-invariant-loop-slot l = (k g : ℕ) → Holds l.places k g (shown_key l.key) → l.slot ≤ k
+invariant-loop-slot l = (k g : ℕ) → HoldsKey l.places k g (shown_key l.key) → l.slot ≤ k

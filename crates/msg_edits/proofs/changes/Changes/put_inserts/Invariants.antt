@@ -1,6 +1,7 @@
 use Rattle.std.proofs.Common.{List, ℕ, ◌++◌, take}
 use Rattle.msg_edits.specs.Edited.{inserted_at}
-use Rattle.msg_edits.specs.Writing.{IsWrittenSoFar, edits_of}
+use Rattle.sip_words.specs.Room.{IsWrittenSoFar}
+use Rattle.msg_edits.specs.Writing.{edits_of}
 use Rattle.msg_edits.proofs.changes.Changes.put_inserts.Given as goal
 
 abbrev pub invariant-loop-i : goal.invariant-loop-i

@@ -1,6 +1,7 @@
 use Rattle.std.proofs.Common.{take}
 use Rattle.msg_edits.specs.Edited.{edited_from}
-use Rattle.msg_edits.specs.Writing.{edits_of, IsWrittenSoFar}
+use Rattle.sip_words.specs.Room.{IsWrittenSoFar}
+use Rattle.msg_edits.specs.Writing.{edits_of}
 use Rattle.msg_edits.proofs.changes.Changes.write_each_byte.Given as goal
 
 abbrev pub invariant-loop-at : goal.invariant-loop-at

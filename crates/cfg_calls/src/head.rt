@@ -1,0 +1,53 @@
+//! The kind and the name of a block, by which it is found.
+
+ghost use Rattle.std.specs.Prelude.{◌≡◌, ℕ, List, None, Some, Option, IfOk};
+ghost use Rattle.cfg_tree.specs.Checks.{block_name};
+ghost use Rattle.cfg_calls.specs.Heads.{shown};
+
+use cfg_tree::{RawBlock, RouteKind};
+use std::alloc::{AllocError as NoMemory, Global};
+
+/// A kind of blocks, and a name or none.
+#[derive(Drop, PartialEq, Eq)]
+#[derive_where(Hash)]
+pub struct Head {
+    #[derive_where(skip(Hash))]
+    kind: RouteKind,
+    name: Option<Vec<u8>>,
+}
+
+impl Head {
+    /// Without a name.
+    pub fn unnamed(kind: RouteKind) -> Head
+        ensures { shown result ≡ (kind, None) }
+    {
+        Head { kind, name: None }
+    }
+
+    pub fn named(alloc: Global, kind: RouteKind, name: &[u8]) -> Result<Head, NoMemory>
+        ensures { IfOk result (λ h. shown h ≡ (kind, Some name.now)) }
+    {
+        let name = Some(Vec::from_slice(alloc, name)?);
+        Ok(Head { kind, name })
+    }
+
+    /// The kind and the name of this block.
+    pub fn of(alloc: Global, block: &RawBlock) -> Result<Head, NoMemory>
+        ensures { IfOk result (λ h. shown h ≡ block_name block.now) }
+    {
+        match &block.name {
+            Some(name) => Head::named(alloc, block.kind, name.text.bytes()),
+            None => Ok(Head::unnamed(block.kind)),
+        }
+    }
+
+    /// The same kind and name.
+    pub fn copy(&self, alloc: Global) -> Result<Head, NoMemory>
+        ensures { IfOk result (λ h. shown h ≡ shown self.now) }
+    {
+        match &self.name {
+            Some(name) => Head::named(alloc, self.kind, name.as_slice()),
+            None => Ok(Head::unnamed(self.kind)),
+        }
+    }
+}

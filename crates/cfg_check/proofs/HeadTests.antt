@@ -1,8 +1,0 @@
--- What `==` says of two kinds and names.
-use Rattle.std.proofs.Common.{◌≡◌, rules}
-use Rattle.cfg_check.specs.declared.head.Head.{Head}
-use Rattle.cfg_check.specs.contracts.head.HeadPartialEq.TheImpl.{eq-value}
-use Rattle.cfg_check.specs.Heads.{same_head}
-
-pub tests : (a b : Head) → eq-value.it a b ≡ same_head a b
-tests a b = search rules

@@ -1,0 +1,98 @@
+-- Lists of lists, and beginnings.
+use Rattle.std.proofs.Common.{◌≡◌, ◌≢◌, ◌⊎◌, ℕ, zero, suc, ◌+◌, ◌<◌, ◌≤◌, true, false, Bool, cond, List, [], ◌∷◌, ◌++◌, length, refl, sym, ap, ◌∙◌, subst, inl, inr, ⊎_elim, arith, append_assoc, length-append}
+use Rattle.std.proofs.lemmas.List.{nil_from_length}
+use Rattle.std.proofs.lemmas.Bool.{ltb-true, ltb-false, le-ltb, lt-ltb}
+use Rattle.std.specs.Prelude.{nat_lt}
+use mathlib.Core.Option.{some, some-injective, some-ne-none}
+use lib.ListN.{get_elem?}
+use mathlib.Core.List.{IsPrefix}
+use Rattle.claim_words.specs.Lists.{at, put, longer_of}
+
+module _ {A : Type 0} where
+  pub at-put_same : (xs : List (List A)) (k : ℕ) (h : List A) → at (put xs k h) k ≡ h
+  at-put_same [] zero h = refl
+  at-put_same [] (suc k) h = at-put_same [] k h
+  at-put_same (x ∷ xs) zero h = refl
+  at-put_same (x ∷ xs) (suc k) h = at-put_same xs k h
+
+  pub at-put_other : (xs : List (List A)) (j k : ℕ) (h : List A) → j ≢ k → at (put xs k h) j ≡ at xs j
+  at-put_other [] zero zero h n = absurd (n refl)
+  at-put_other [] zero (suc k) h n = refl
+  at-put_other [] (suc j) zero h n = refl
+  at-put_other [] (suc j) (suc k) h n = at-put_other [] j k h (λ e. n (ap suc e))
+  at-put_other (x ∷ xs) zero zero h n = absurd (n refl)
+  at-put_other (x ∷ xs) zero (suc k) h n = refl
+  at-put_other (x ∷ xs) (suc j) zero h n = refl
+  at-put_other (x ∷ xs) (suc j) (suc k) h n = at-put_other xs j k h (λ e. n (ap suc e))
+
+  pub begins_all : (xs : List A) → IsPrefix xs xs
+  begins_all [] = ([], refl)
+  begins_all (x ∷ xs) = let t = begins_all xs in (t.0, ap (λ (l : List A). x ∷ l) t.1)
+
+  pub begins_more : (xs ys zs : List A) → IsPrefix xs ys → IsPrefix xs (ys ++ zs)
+  begins_more xs ys zs t = (t.0 ++ zs, sym (append_assoc xs t.0 zs) ∙ ap (λ (l : List A). l ++ zs) t.1)
+
+  pub at_below : (l : List A) (i : ℕ) (a : A) → get_elem? l i ≡ some a → i < length l
+  at_below [] i a e = absurd (some-ne-none a (sym e))
+  at_below (x ∷ xs) zero a e = omega arith
+  at_below (x ∷ xs) (suc i) a e = let t = at_below xs i a e in omega arith
+
+  pub at_end : (l : List A) (a b : A) (j : ℕ) → get_elem? (l ++ a ∷ []) j ≡ some b → (get_elem? l j ≡ some b) ⊎ ((j ≡ length l) × (a ≡ b))
+  at_end [] a b zero e = inr (refl, some-injective a b e)
+  at_end [] a b (suc j) e = absurd (some-ne-none b (sym e))
+  at_end (x ∷ xs) a b zero e = inl e
+  at_end (x ∷ xs) a b (suc j) e = ⊎_elim (λ t. inl t) (λ (t : (j ≡ length xs) × (a ≡ b)). inr (ap suc t.0, t.1)) (at_end xs a b j e)
+
+  pub at_there : (xs : List (List A)) (i : ℕ) → i < length xs → get_elem? xs i ≡ some (at xs i)
+  at_there [] i l = absurd (omega arith)
+  at_there (x ∷ xs) zero l = refl
+  at_there (x ∷ xs) (suc i) l = at_there xs i (omega arith)
+
+  pub at_past : (xs : List (List A)) (i : ℕ) → length xs ≤ i → at xs i ≡ []
+  at_past [] i l = refl
+  at_past (x ∷ xs) zero l = absurd (omega arith)
+  at_past (x ∷ xs) (suc i) l = at_past xs i (omega arith)
+
+  pub nil_ends : (xs : List A) → xs ++ [] ≡ xs
+  nil_ends [] = refl
+  nil_ends (x ∷ xs) = ap (λ (l : List A). x ∷ l) (nil_ends xs)
+
+  never_shorter : (n : ℕ) (x : List A) → x ≡ cond (nat_lt n 0) [] x
+  never_shorter n x = sym (ap (λ b. cond b [] x) (le-ltb n 0 (omega arith)))
+
+  or_empty : (l : List A) → l ≡ cond (nat_lt 0 (length l)) l []
+  or_empty [] = refl
+  or_empty (x ∷ xs) = sym (ap (λ b. cond b (x ∷ xs) []) (lt-ltb 0 (length (x ∷ xs)) (omega arith)))
+
+  pub at-longer_of : (xs ys : List (List A)) (k : ℕ) → at (longer_of xs ys) k ≡ cond (nat_lt (length (at xs k)) (length (at ys k))) (at ys k) (at xs k)
+  at-longer_of [] ys k = or_empty (at ys k)
+  at-longer_of (x ∷ xs) [] zero = never_shorter (length x) x
+  at-longer_of (x ∷ xs) [] (suc k) = never_shorter (length (at xs k)) (at xs k)
+  at-longer_of (x ∷ xs) (y ∷ ys) zero = refl
+  at-longer_of (x ∷ xs) (y ∷ ys) (suc k) = at-longer_of xs ys k
+
+  begins_length : (v h : List A) → IsPrefix v h → length v ≤ length h
+  begins_length v h b = let e : length v + length b.0 ≡ length h = sym (length-append v b.0) ∙ ap length b.1 in omega arith
+
+  begins_whole : (v h : List A) → IsPrefix v h → length h ≤ length v → v ≡ h
+  begins_whole v h b l = let e : length v + length b.0 ≡ length h = sym (length-append v b.0) ∙ ap length b.1 in
+      let none_left : b.0 ≡ [] = nil_from_length b.0 (omega arith) in
+      sym (nil_ends v) ∙ (ap (λ (r : List A). v ++ r) (sym none_left) ∙ b.1)
+
+module _ {A : Type 0} (a b h : List A) where
+  either_begins : IsPrefix a h → IsPrefix b h → (t : Bool) → IsPrefix (cond t b a) h
+  either_begins p q true = q
+  either_begins p q false = p
+
+  best : IsPrefix a h → IsPrefix b h → (a ≡ h) ⊎ (b ≡ h) → (t : Bool) → nat_lt (length a) (length b) ≡ t → cond t b a ≡ h
+  best p q known true is = ⊎_elim
+      (λ (e : a ≡ h). let l = ltb-true (length a) (length b) is in let m = begins_length b h q in let n : length a ≡ length h = ap length e in absurd (omega arith))
+      (λ e. e) known
+  best p q known false is = ⊎_elim (λ e. e)
+      (λ (e : b ≡ h). let l = ltb-false (length a) (length b) is in let n : length b ≡ length h = ap length e in begins_whole a h p (omega arith)) known
+
+pub seen_best : {A : Type 0} (xs ys : List (List A)) (k : ℕ) (h : List A) → IsPrefix (at xs k) h → IsPrefix (at ys k) h → (at xs k ≡ h) ⊎ (at ys k ≡ h) → at (longer_of xs ys) k ≡ h
+seen_best xs ys k h p q known = at-longer_of xs ys k ∙ best (at xs k) (at ys k) h p q known (nat_lt (length (at xs k)) (length (at ys k))) refl
+
+pub seen_begins : {A : Type 0} (xs ys : List (List A)) (k : ℕ) (h : List A) → IsPrefix (at xs k) h → IsPrefix (at ys k) h → IsPrefix (at (longer_of xs ys) k) h
+seen_begins {A} xs ys k h p q = subst (λ (z : List A). IsPrefix z h) (sym (at-longer_of xs ys k)) (either_begins (at xs k) (at ys k) h p q (nat_lt (length (at xs k)) (length (at ys k))))

@@ -1,0 +1,64 @@
+-- What a run has, and what a row makes of it.
+use Rattle.std.specs.Prelude.{ℕ, ℤ, Bool, true, false, List, Option, Some, None, is_none}
+use Rattle.std.specs.Prelude.{slice_index_or}
+use Rattle.dialogue.specs.Course.{Course, Ends, Asks}
+use Rattle.pv_values.specs.declared.run.HostAnswer.{HostAnswer}
+use Rattle.pv_values.specs.declared.run.HostAnswer.TheVariants as told
+use Rattle.pv_values.specs.declared.value.Val.{Val}
+use Rattle.pv_values.specs.declared.value.Val.TheVariants.{Null}
+use Rattle.pv_values.specs.Values.{text_of}
+use Rattle.sip_msg.specs.declared.message.Message.{Message}
+use Rattle.sip_msg.specs.Table.{fault_of}
+use Rattle.cfg_tree.specs.declared.setting.Parameters.{Parameters}
+use Rattle.pv_table.specs.declared.facts.Facts.{Facts}
+use Rattle.host_meaning.specs.declared.ask.Asked.{Asked}
+use Rattle.host_meaning.specs.declared.ask.Heard.{Heard}
+use Rattle.host_meaning.specs.declared.settings.Settings.{Settings}
+
+-- a message, with its bytes
+pub record Received : Type 0 where
+  pub bytes : List ℕ
+  pub message : Message
+
+-- what a run never changes: what the script and the start of the proxy set, and its message; an event block has none
+pub record Around : Type 0 where
+  pub parameters : Parameters
+  pub settings : Settings
+  pub received : Option Received
+
+-- what a run has: its facts, and how many blocks it holds
+pub record RunState : Type 0 where
+  pub facts : Facts
+  pub blocks : ℕ
+
+-- what is left of a run that finds no memory: the blocks that it holds, and the suspension that it opened last
+pub record Kept : Type 0 where
+  pub blocks : ℕ
+  pub label : Option ℕ
+
+abbrev pub kept : RunState → Kept
+kept s = record { blocks = s.blocks; label = s.facts.label }
+
+-- how a row ends: the script is told this, and the run has this; or an object found no memory
+pub data RowEnd : Type 0 where
+  Tells : (answer : HostAnswer) → (state : RunState) → RowEnd
+  Lacks : (state : RunState) → RowEnd
+
+abbrev pub RowCourse : Type 0
+RowCourse = Course Asked Heard RowEnd
+
+-- a row that ends at once, with a code
+abbrev pub code : ℤ → RunState → RowCourse
+code n s = Ends (Tells (told.Code n) s)
+
+-- an expanded argument as a text
+abbrev pub argument : List Val → ℕ → List ℕ
+argument values i = text_of (slice_index_or values i Null)
+
+-- a text that reads as a message
+abbrev pub is_readable : List ℕ → Bool
+is_readable text = is_none (fault_of text)
+
+-- the facts with one of them changed
+abbrev pub with_facts : RunState → Facts → RunState
+with_facts s f = record s { facts = f }

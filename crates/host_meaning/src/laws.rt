@@ -1,0 +1,21 @@
+//! Laws of the rows. Each function states a law, and does nothing when it is called.
+ghost use Rattle.std.specs.Prelude.{◌≡◌, ◌∷◌, [], codes};
+ghost use Rattle.dialogue.specs.Course.{Ends};
+ghost use Rattle.pv_values.specs.declared.run.HostAnswer.{HostAnswer as Answered};
+ghost use Rattle.pv_values.specs.declared.run.HostAsk.{HostAsk as Wanted};
+ghost use Rattle.host_meaning.specs.Run.{Around, RunState, Tells, kept};
+ghost use Rattle.host_meaning.specs.Rows.{row};
+ghost use Rattle.host_meaning.specs.Headers.{between_bars};
+
+/// A row that asks nothing outside leaves the blocks that the run holds and the suspension that it opened last as they
+/// were. So it is one thing, in a stretch without an ask, where in it a run finds no memory.
+pub fn a_row_that_asks_nothing_keeps()
+    ensures { (a : Around) (ask : Wanted) (s t : RunState) (answer : Answered) → row a ask s ≡ Ends (Tells answer t) → kept t ≡ kept s }
+{}
+
+/// The methods of a list are the texts between its bars.
+pub fn a_list_of_methods()
+    ensures two { between_bars (codes "INVITE|ACK") ≡ codes "INVITE" ∷ codes "ACK" ∷ [] }
+    ensures one { between_bars (codes "BYE") ≡ codes "BYE" ∷ [] }
+    ensures empty { between_bars [] ≡ [] ∷ [] }
+{}

@@ -1,0 +1,5 @@
+use Rattle.sip_laws.proofs.Relaying.{relayed_reads}
+use Rattle.sip_laws.proofs.laws.a_relayed_response_reads.Goals as goal
+
+pub returns : goal.returns
+returns c = relayed_reads

@@ -1,0 +1,48 @@
+//! Laws of what the proxy sends (RFC 3261, sections 8.2.6, 9.1, 16.6, 16.7 and 17.1.1.3). Each function states a law over
+//! every message that reads, and does nothing when it is called.
+ghost use Rattle.std.specs.Prelude.{◌≡◌, ◌≤◌, ◌<◌, ◌^◌, List, None, Some, [], codes, length, ℕ};
+ghost use Rattle.outside_ports.specs.declared.port.Addr.{Addr as Address};
+ghost use Rattle.sip_scan.specs.Grammar.{IsLine};
+ghost use Rattle.sip_build.specs.Reply.{reply_text};
+ghost use Rattle.sip_fields.specs.declared.via.Via.{Via as ViaValue};
+ghost use Rattle.sip_scan.specs.declared.field.Kind.TheVariants as kind;
+ghost use Rattle.sip_msg.specs.Fields.{count};
+ghost use Rattle.sip_msg.specs.Table.{Reads};
+ghost use Rattle.sip_msg.specs.declared.message.Message.{Message as Incoming};
+ghost use Rattle.sip_build.specs.Hop.{ack_text, cancel_text};
+ghost use Rattle.sip_build.specs.Relayed.{relayed_text};
+ghost use Rattle.sip_laws.specs.Sent.{IsOnItsWay, IsRelayed, IsReply, IsRequest, IsResponse, second_via, the_field};
+
+/// The ACK for a response to a request that was sent reads, where the request has at most 121 Route fields and the ACK at
+/// most 8,192 bytes: as an ACK on the way of that request, with To of the response.
+pub fn an_ack_reads()
+    ensures { (b : List ℕ) (m : Incoming) (response : List ℕ) (rm : Incoming) → Reads b m → IsRequest m.start → Reads response rm
+        → count kind.Route m.head.fields.items ≤ 121 → length (ack_text b m response rm) ≤ 8192
+        → (w : Incoming) × IsOnItsWay (codes "ACK") b m (the_field kind.To response rm) (ack_text b m response rm) w }
+{}
+
+/// The CANCEL of a request that was sent reads, where the request has at most 121 Route fields and the CANCEL at most
+/// 8,192 bytes: as a CANCEL on the way of that request, with To of the request.
+pub fn a_cancel_reads()
+    ensures { (b : List ℕ) (m : Incoming) → Reads b m → IsRequest m.start
+        → count kind.Route m.head.fields.items ≤ 121 → length (cancel_text b m) ≤ 8192
+        → (w : Incoming) × IsOnItsWay (codes "CANCEL") b m (the_field kind.To b m) (cancel_text b m) w }
+{}
+
+/// The proxy's response to a request reads, where its code is 100 to 699, its reason one line (without NUL, CR and LF), the
+/// request has at most 123 Via fields and the response at most 8,192 bytes: as a response with this code and reason, the Via
+/// fields of the request in order with the top value stamped, its From, Call-ID and CSeq, and its To, which has a tag unless
+/// the code is 100. That the tag is read has the premise that To of the request has no parameter `tag` without a value.
+pub fn a_response_reads()
+    ensures { (b : List ℕ) (m : Incoming) (source : Address) (code : ℕ) (reason : List ℕ) → Reads b m → source.port < 2 ^ 16
+        → 100 ≤ code → code ≤ 699 → IsLine reason → count kind.Via m.head.fields.items ≤ 123
+        → length (reply_text b m source code reason) ≤ 8192
+        → (w : Incoming) × IsReply b m source code reason (reply_text b m source code reason) w }
+{}
+
+/// A response that is relayed without edits of a script reads, where its top Via value is alone in its field and a second
+/// Via field stands: with the first value of that field on top, and all else as received.
+pub fn a_relayed_response_reads()
+    ensures { (b : List ℕ) (m : Incoming) (v : ViaValue) → Reads b m → IsResponse m.start → m.via.next ≡ None → second_via b m ≡ Some v
+        → (w : Incoming) × IsRelayed b m v (relayed_text b m []) w }
+{}

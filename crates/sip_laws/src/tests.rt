@@ -1,0 +1,176 @@
+//! Each law at one message that was worked out by hand, and texts that don't read.
+use msg_edits::TooLong;
+use outside_ports::Addr;
+use sip_build::{ack, append_field, cancel, forwarded, relayed_reply, reply};
+use sip_msg::{Message, MsgFault, Span};
+use std::process::Abort;
+
+/// 192.0.2.1:5060.
+const CALLER: Addr = Addr {
+    ip: 0xc000_0201,
+    port: 5060,
+};
+
+/// 127.0.0.1:5060.
+const PROXY: Addr = Addr {
+    ip: 0x7f00_0001,
+    port: 5060,
+};
+
+/// An INVITE that the proxy sent, with two Via values in one field, and folds.
+const SENT: &[u8] =
+    b"INVITE sip:b@192.0.2.9 SIP/2.0\r\nv:\r\n SIP/2.0/UDP 127.0.0.1:5060\r\n ;branch=z9hG4bKrs0, SIP/2.0/UDP i\r\nRoute: <sip:p1;lr>, <sip:p2>\r\nMax-Forwards: 69\r\nCSeq: 0017 INVITE\r\nf: <sip:u@h>;tag=f\r\nroute :\r\n <sip:p3>\r\nTo: <sip:b@h>\r\nCall-ID: 6\r\nContent-Length: 2\r\n\r\nab";
+
+const BUSY: &[u8] =
+    b"SIP/2.0 486 Busy Here\r\nVia: SIP/2.0/UDP 127.0.0.1:5060;branch=z9hG4bKrs0\r\nFrom: <sip:u@h>;tag=f\r\nVia: SIP/2.0/UDP i;branch=z9hG4bK1\r\nt: <sip:b@h>;tag=t\r\nCall-ID: 6\r\nCSeq: 17 INVITE\r\n\r\n";
+
+/// What stands at a span.
+fn stands(room: &[u8], at: Span, want: &[u8]) -> bool {
+    room.get(at.from..at.to) == Some(want)
+}
+
+/// The text at the front of the room reads, with this top branch, CSeq number and CSeq method.
+fn reads(
+    rt: &impl Abort,
+    shows: &str,
+    room: &[u8; 1024],
+    written: Result<usize, TooLong>,
+    branch: &[u8],
+    number: u32,
+    method: &[u8],
+) {
+    let Some(text) = written.ok().and_then(|len| room.get(..len)) else {
+        assert!(rt; false, "{shows}");
+        return;
+    };
+    match Message::read(text) {
+        Ok(w) => {
+            assert!(rt; w.cseq.number == number, "{shows}");
+            assert!(rt; stands(text, w.cseq.method, method), "{shows}");
+            match w.via.branch {
+                Some(at) => assert!(rt; stands(text, at, branch), "{shows}"),
+                None => assert!(rt; false, "{shows}"),
+            }
+        }
+        Err(_) => assert!(rt; false, "{shows}"),
+    }
+}
+
+#[test]
+fn what_is_sent_reads(rt: HostRuntime) {
+    let (Ok(m), Ok(rm)) = (Message::read(SENT), Message::read(BUSY)) else {
+        assert!(rt; false);
+        return;
+    };
+    let mut room = [0; 1024];
+    let result = ack(SENT, &m, BUSY, &rm, &mut room);
+    reads(&rt, "an ACK", &room, result, b"z9hG4bKrs0", 17, b"ACK");
+    let result = cancel(SENT, &m, &mut room);
+    reads(&rt, "a CANCEL", &room, result, b"z9hG4bKrs0", 17, b"CANCEL");
+    let result = reply(SENT, &m, CALLER, 486, b"Busy Here", &mut room);
+    reads(
+        &rt,
+        "a response",
+        &room,
+        result,
+        b"z9hG4bKrs0",
+        17,
+        b"INVITE",
+    );
+    let result = relayed_reply(BUSY, &rm, &[], &mut room);
+    reads(
+        &rt,
+        "a relayed response",
+        &room,
+        result,
+        b"z9hG4bK1",
+        17,
+        b"INVITE",
+    );
+}
+
+/// The text at the front of the room has this fault.
+fn has_fault(
+    rt: &impl Abort,
+    shows: &str,
+    room: &[u8; 1024],
+    written: Result<usize, TooLong>,
+    want: MsgFault,
+) {
+    match written.ok().and_then(|len| room.get(..len)) {
+        Some(text) => match Message::read(text) {
+            Ok(_) => assert!(rt; false, "{shows}"),
+            Err(fault) => assert!(rt; fault == want, "{shows}"),
+        },
+        None => assert!(rt; false, "{shows}"),
+    }
+}
+
+/// A request of 128 fields.
+const FULL: &[u8] =
+    b"OPTIONS sip:b@h SIP/2.0\r\nVia: SIP/2.0/UDP h;branch=z9hG4bK1\r\nMax-Forwards: 70\r\nFrom: <sip:u@h>\r\nTo: <sip:b@h>\r\nCall-ID: 6\r\nCSeq: 1 OPTIONS\r\nX:\r\nX:\r\nX:\r\nX:\r\nX:\r\nX:\r\nX:\r\nX:\r\nX:\r\nX:\r\nX:\r\nX:\r\nX:\r\nX:\r\nX:\r\nX:\r\nX:\r\nX:\r\nX:\r\nX:\r\nX:\r\nX:\r\nX:\r\nX:\r\nX:\r\nX:\r\nX:\r\nX:\r\nX:\r\nX:\r\nX:\r\nX:\r\nX:\r\nX:\r\nX:\r\nX:\r\nX:\r\nX:\r\nX:\r\nX:\r\nX:\r\nX:\r\nX:\r\nX:\r\nX:\r\nX:\r\nX:\r\nX:\r\nX:\r\nX:\r\nX:\r\nX:\r\nX:\r\nX:\r\nX:\r\nX:\r\nX:\r\nX:\r\nX:\r\nX:\r\nX:\r\nX:\r\nX:\r\nX:\r\nX:\r\nX:\r\nX:\r\nX:\r\nX:\r\nX:\r\nX:\r\nX:\r\nX:\r\nX:\r\nX:\r\nX:\r\nX:\r\nX:\r\nX:\r\nX:\r\nX:\r\nX:\r\nX:\r\nX:\r\nX:\r\nX:\r\nX:\r\nX:\r\nX:\r\nX:\r\nX:\r\nX:\r\nX:\r\nX:\r\nX:\r\nX:\r\nX:\r\nX:\r\nX:\r\nX:\r\nX:\r\nX:\r\nX:\r\nX:\r\nX:\r\nX:\r\nX:\r\nX:\r\nX:\r\nX:\r\nX:\r\nX:\r\nX:\r\nX:\r\nX:\r\nX:\r\nX:\r\nX:\r\nX:\r\nX:\r\nX:\r\nX:\r\n\r\n";
+
+/// These calls write what was asked for; the text is no message.
+#[test]
+fn texts_that_are_no_messages(rt: HostRuntime) {
+    let Ok(m) = Message::read(FULL) else {
+        assert!(rt; false);
+        return;
+    };
+    assert!(rt; m.max_forwards == Some(70));
+    let mut room = [0; 1024];
+    let result = forwarded(
+        FULL,
+        &m,
+        CALLER,
+        &[],
+        b"sip:b@h",
+        PROXY,
+        b"z9hG4bK2",
+        70,
+        &mut room,
+    );
+    has_fault(&rt, "129 fields", &room, result, MsgFault::TooManyHeaders);
+    let result = forwarded(
+        FULL,
+        &m,
+        CALLER,
+        &[],
+        b"sip:b@h x",
+        PROXY,
+        b"z9hG4bK2",
+        70,
+        &mut room,
+    );
+    has_fault(
+        &rt,
+        "a URI with a blank",
+        &room,
+        result,
+        MsgFault::BadStartLine,
+    );
+    let result = reply(FULL, &m, CALLER, 200, b"OK\r\nno field", &mut room);
+    has_fault(
+        &rt,
+        "a line end in a reason",
+        &room,
+        result,
+        MsgFault::BadHeader,
+    );
+    let written = reply(FULL, &m, CALLER, 200, b"OK", &mut room);
+    let Ok(len) = written else {
+        assert!(rt; false);
+        return;
+    };
+    assert!(rt; len <= room.len());
+    let field = b"Call-ID: 7\r\n";
+    let whole = Span { from: 0, to: 12 };
+    let result = append_field(&mut room, len, field, whole);
+    has_fault(
+        &rt,
+        "a field given twice",
+        &room,
+        result,
+        MsgFault::Repeated,
+    );
+}

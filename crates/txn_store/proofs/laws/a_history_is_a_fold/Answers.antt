@@ -1,0 +1,10 @@
+use Rattle.histories.proofs.Lists.{runs_are_folds}
+use Rattle.txn_store.specs.Records.{IndexAnswers, places_after}
+use Rattle.txn_store.proofs.Runs.{runs_keep_slots}
+use Rattle.txn_store.proofs.laws.a_history_is_a_fold.Goals as goal
+
+pub returns-clause-fold : goal.returns-clause-fold
+returns-clause-fold c = λ s u rs. runs_are_folds IndexAnswers places_after s u rs
+
+pub returns-clause-slots : goal.returns-clause-slots
+returns-clause-slots c = runs_keep_slots
