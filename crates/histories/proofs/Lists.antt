@@ -75,6 +75,9 @@ rose_append n m a b c (inl p) (inr q) = inr q
 rose_append n m a b c (inr p) (inl q) = inr (omega arith)
 rose_append n m a b c (inr p) (inr q) = inr q
 
+pub rose_none : (a : ℕ) → Rose 0 a a
+rose_none a = inl (omega arith)
+
 pub rose_one : (a b : ℕ) → Rises a b → Rose 1 a b
 rose_one a b (inl p) = inl p
 rose_one a b (inr p) = inr (omega arith)

@@ -15,8 +15,9 @@ pub fn lists_go_on<A, B>()
         → Grows a b xs → Grows (option_map (flat_map f) a) (option_map (flat_map f) b) (flat_map f xs) }
 {}
 
-/// A count that rose by some and then by more rose by both.
+/// A count that stayed rose by none, and one that rose by some and then by more rose by both.
 pub fn counts_go_on()
+    ensures still { (a : ℕ) → Rose 0 a a }
     ensures append { (n m a b c : ℕ) → Rose n a b → Rose m b c → Rose (n + m) a c }
     ensures one { (a b : ℕ) → Rises a b → Rose 1 a b }
 {}
