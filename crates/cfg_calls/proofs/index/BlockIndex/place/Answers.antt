@@ -1,7 +1,7 @@
 use Rattle.std.proofs.Common.{◌∙◌, rules}
 use Rattle.std.proofs.Math.Logic.{∥∥₁_map}
 use Rattle.cfg_calls.proofs.Heads.{place_found, known_place}
-use Rattle.cfg_calls.proofs.index.Blocks.place.Goals as goal
+use Rattle.cfg_calls.proofs.index.BlockIndex.place.Goals as goal
 
 pub returns : goal.returns
 returns c =

@@ -3,9 +3,9 @@ use Rattle.std.specs.Map.{lookup}
 use Rattle.std.proofs.Math.Logic.{∥∥₁_map}
 use Rattle.cfg_calls.proofs.Heads.{added_again, added_new}
 use Rattle.cfg_calls.proofs.HeadTests.{tests}
-use Rattle.cfg_calls.specs.contracts.head.HeadPartialEq.TheImpl.{eq-value}
-use Rattle.cfg_calls.proofs.index.Blocks.with.Goals.{then-is_none+in_ok-key+in-Ok, else-is_none}
-use Rattle.cfg_calls.proofs.index.Blocks.with.Goals as goal
+use Rattle.cfg_calls.specs.contracts.head.BlockHeadPartialEq.TheImpl.{eq-value}
+use Rattle.cfg_calls.proofs.index.BlockIndex.with.Goals.{then-is_none+in_ok-key+in-Ok, else-is_none}
+use Rattle.cfg_calls.proofs.index.BlockIndex.with.Goals as goal
 
 pub invariant_of-result : goal.invariant_of-result
 invariant_of-result c = elim c.if-is_none.branch [
