@@ -4,7 +4,7 @@ use Rattle.std.proofs.lemmas.List.{get_or_past}
 use Rattle.std.specs.Option.{MatchOption}
 use Rattle.fork_core.specs.declared.context.Context.{Context}
 use Rattle.fork_core.specs.declared.context.BranchMark.TheVariants.{Open, Kept}
-use Rattle.fork_core.specs.Responses.{Response, History, FirstFinal, IsKeptNow}
+use Rattle.fork_core.specs.Responses.{BranchResponse, History, FirstFinal, IsKeptNow}
 use Rattle.fork_core.specs.Preference.{Preferred, IsBetterCode, group_of, place_in_class}
 use Rattle.fork_core.specs.Preference.Preferred.{by_class, by_place, by_code, by_branch}
 use Rattle.fork_core.specs.Choices.{IsBest}
@@ -152,7 +152,7 @@ inside c k d is =
     in_or k n = grind arith
 
 pub best_found : (c : Context) (h : History) (n : ℕ) (x : ℕ × ℕ) → HasHistory c h → branch_count c ≤ n → BestBelow c n (Some x) →
-    (a : Response) × (a.branch ≡ x.0) × IsBest h a
+    (a : BranchResponse) × (a.branch ≡ x.0) × IsBest h a
 best_found c h n x s whole b =
     let in_x : x.0 < length h.branches = subst (λ l. x.0 < l) s.count (inside c x.0 x.1 b.mark) in
     let k = kept_at c h s x.0 x.1 in_x b.mark in (
@@ -169,7 +169,7 @@ best_found c h n x s whole b =
       },
     )
 
-pub best_missing : (c : Context) (h : History) (n : ℕ) → HasHistory c h → branch_count c ≤ n → BestBelow c n None → (a : Response) → ¬ IsKeptNow h a
+pub best_missing : (c : Context) (h : History) (n : ℕ) → HasHistory c h → branch_count c ≤ n → BestBelow c n None → (a : BranchResponse) → ¬ IsKeptNow h a
 best_missing c h n s whole b a now =
     let m = mark_of_kept c h s a now.kept in
     let low : c.first ≤ a.branch = (s.current a.branch m.0).1 (sym m.2 ∙ now.now) in
@@ -177,7 +177,7 @@ best_missing c h n s whole b a now =
     b a.branch a.code low (omega arith) m.1
 
 -- there is one best response
-pub one_best : (h : History) (a b : Response) → IsBest h a → IsBest h b → a ≡ b
+pub one_best : (h : History) (a b : BranchResponse) → IsBest h a → IsBest h b → a ≡ b
 one_best h a b x y =
     elim (same_or a.branch b.branch) [
       | inl e ↦ first_unique a.branch h.responses a b x.kept.kept.counts (subst (λ k. FirstFinal k h.responses b) (sym e) y.kept.kept.counts)

@@ -6,7 +6,7 @@ use Rattle.std.proofs.lemmas.Bool.Decides.{same_from_decides}
 use Rattle.fork_core.specs.declared.context.Context.{Context}
 use Rattle.fork_core.specs.declared.context.BranchMark.{BranchMark}
 use Rattle.fork_core.specs.declared.context.BranchMark.TheVariants.{Open, Succeeded, Kept}
-use Rattle.fork_core.specs.Responses.{Response, History, FirstFinal, IsSuccess, IsFailure}
+use Rattle.fork_core.specs.Responses.{BranchResponse, History, FirstFinal, IsSuccessCode, IsFailureCode}
 use Rattle.fork_core.specs.Choices.{HasFailed}
 use Rattle.fork_core.specs.Decisions.{has_failed}
 use Rattle.fork_core.specs.Histories.{HasHistory, Says, branch_count, branch_mark, is_kept_mark}
@@ -36,10 +36,10 @@ failed c h s e = λ n inside now.
     go n (branch_mark c n) (s.marks n inside)
     (at_each is_kept_mark Open c.first c.marks.items e n ((s.current n inside).1 now) (subst (λ l. n < l) (sym s.count) inside))
   where
-    go : (n : ℕ) (m : BranchMark) → Says h.responses n m → is_kept_mark m ≡ true → (r : Response) × FirstFinal n h.responses r × IsFailure r.code
+    go : (n : ℕ) (m : BranchMark) → Says h.responses n m → is_kept_mark m ≡ true → (r : BranchResponse) × FirstFinal n h.responses r × IsFailureCode r.code
     go n Open says t = absurd (false≢true t)
     go n Succeeded says t = absurd (false≢true t)
-    go n (Kept code) says t = (says.0, says.1, subst IsFailure (sym says.2) says.3)
+    go n (Kept code) says t = (says.0, says.1, subst IsFailureCode (sym says.2) says.3)
 
 pub all_kept : (c : Context) (h : History) → HasHistory c h → HasFailed h → list_all is_kept_mark (drop c.first c.marks.items) ≡ true
 all_kept c h s each =
@@ -48,10 +48,10 @@ all_kept c h s each =
     let inside : n < length h.branches = subst (λ l. n < l) s.count high in
     let w = each n inside ((s.current n inside).0 low) in go n (branch_mark c n) (s.marks n inside) w.0 w.1 w.2)
   where
-    go : (n : ℕ) (m : BranchMark) → Says h.responses n m → (r : Response) → FirstFinal n h.responses r → IsFailure r.code → is_kept_mark m ≡ true
+    go : (n : ℕ) (m : BranchMark) → Says h.responses n m → (r : BranchResponse) → FirstFinal n h.responses r → IsFailureCode r.code → is_kept_mark m ≡ true
     go n Open says r first failure = absurd (first_not_none n h.responses r first says)
     go n Succeeded says r first failure =
-        absurd (not_both r.code (subst (λ (x : Response). IsSuccess x.code) (first_unique n h.responses says.0 r says.1 first) says.2) failure)
+        absurd (not_both r.code (subst (λ (x : BranchResponse). IsSuccessCode x.code) (first_unique n h.responses says.0 r says.1 first) says.2) failure)
     go n (Kept code) says r first failure = refl
 
 pub failed_value : (c : Context) (h : History) → HasHistory c h → list_all is_kept_mark (drop c.first c.marks.items) ≡ has_failed h

@@ -5,16 +5,16 @@ use Rattle.std.proofs.Math.Seq.{take-append_seam}
 use Rattle.fork_core.specs.declared.context.Context.{Context}
 use Rattle.fork_core.specs.declared.context.BranchMark.{BranchMark}
 use Rattle.fork_core.specs.declared.context.BranchMark.TheVariants.{Open, Succeeded, Kept}
-use Rattle.fork_core.specs.Responses.{Response, History, IsSuccess, IsFailure, IsFinal, HasNoFinal, FirstFinal, IsKeptFinal, with_response}
-use Rattle.fork_core.specs.Choices.{IsToCancel, IsChallenged, IsChallenge, Joins}
+use Rattle.fork_core.specs.Responses.{BranchResponse, History, IsSuccessCode, IsFailureCode, IsFinalCode, HasNoFinal, FirstFinal, IsKeptFinal, with_response}
+use Rattle.fork_core.specs.Choices.{IsToCancel, IsChallenged, IsChallengeCode, Joins}
 use Rattle.fork_core.specs.Histories.{HasHistory, Says, branch_count, branch_mark, mark_after, IsChallengeMark}
 use Rattle.fork_core.proofs.Finals.{all_append, first_branch, first_has, first_append, first_new, first_not_none, first_unique, success_final, failure_final, not_both}
 
 -- the classes of a code
 data Class (code : ℕ) : Type 0 where
-  success : IsSuccess code → Class code
-  failure : IsFailure code → Class code
-  neither : (IsFinal code → ⊥) → Class code
+  success : IsSuccessCode code → Class code
+  failure : IsFailureCode code → Class code
+  neither : (IsFinalCode code → ⊥) → Class code
 
 below : (a b : ℕ) → (a < b) ⊎ (b ≤ a)
 below a b = grind arith
@@ -29,25 +29,25 @@ class code =
       ]
     ]
 
-after_success : (code : ℕ) → IsSuccess code → mark_after Open code ≡ Succeeded
+after_success : (code : ℕ) → IsSuccessCode code → mark_after Open code ≡ Succeeded
 after_success code h = grind (arith, nat_tests)
 
-after_failure : (code : ℕ) → IsFailure code → mark_after Open code ≡ Kept code
+after_failure : (code : ℕ) → IsFailureCode code → mark_after Open code ≡ Kept code
 after_failure code h = grind (arith, nat_tests)
 
-after_neither : (code : ℕ) → (IsFinal code → ⊥) → mark_after Open code ≡ Open
+after_neither : (code : ℕ) → (IsFinalCode code → ⊥) → mark_after Open code ≡ Open
 after_neither code not =
     elim (below code 200) [
       | inl l ↦ grind (arith, nat_tests)
       | inr g ↦ elim (below code 700) [ inl l ↦ absurd (not (g, l)) | inr g' ↦ grind (arith, nat_tests) ]
     ]
 
-says_other : (xs : List Response) (n : ℕ) (a : Response) (m : BranchMark) → (a.branch ≡ n → ⊥) → Says xs n m → Says (xs ++ a ∷ []) n m
+says_other : (xs : List BranchResponse) (n : ℕ) (a : BranchResponse) (m : BranchMark) → (a.branch ≡ n → ⊥) → Says xs n m → Says (xs ++ a ∷ []) n m
 says_other xs n a Open other none = all_append _ xs a none (λ is. absurd (other is))
 says_other xs n a Succeeded other says = (says.0, first_append n xs says.0 a says.1, says.2)
 says_other xs n a (Kept code) other says = (says.0, first_append n xs says.0 a says.1, says.2, says.3)
 
-says_open : (xs : List Response) (n : ℕ) (a : Response) → a.branch ≡ n → HasNoFinal xs n → Class a.code → Says (xs ++ a ∷ []) n (mark_after Open a.code)
+says_open : (xs : List BranchResponse) (n : ℕ) (a : BranchResponse) → a.branch ≡ n → HasNoFinal xs n → Class a.code → Says (xs ++ a ∷ []) n (mark_after Open a.code)
 says_open xs n a is none (success s) =
     subst (λ m. Says (xs ++ a ∷ []) n m) (sym (after_success a.code s)) (a, first_new n xs a none is (success_final a.code s), s)
 says_open xs n a is none (failure f) =
@@ -55,7 +55,7 @@ says_open xs n a is none (failure f) =
 says_open xs n a is none (neither not) =
     subst (λ m. Says (xs ++ a ∷ []) n m) (sym (after_neither a.code not)) (all_append _ xs a none (λ e. not))
 
-says_same : (xs : List Response) (n : ℕ) (a : Response) (m : BranchMark) → a.branch ≡ n → Says xs n m → Says (xs ++ a ∷ []) n (mark_after m a.code)
+says_same : (xs : List BranchResponse) (n : ℕ) (a : BranchResponse) (m : BranchMark) → a.branch ≡ n → Says xs n m → Says (xs ++ a ∷ []) n (mark_after m a.code)
 says_same xs n a Open is none = says_open xs n a is none (class a.code)
 says_same xs n a Succeeded is says = (says.0, first_append n xs says.0 a says.1, says.2)
 says_same xs n a (Kept code) is says = (says.0, first_append n xs says.0 a says.1, says.2, says.3)
@@ -78,7 +78,7 @@ pub counts : (c new : Context) (b code : ℕ) (answered : Bool) (h : History) �
     new.invite ≡ c.invite → new.first ≡ c.first → new.marks.items ≡ slice_set c.marks.items b (mark_after (branch_mark c b) code) →
     HasHistory new (with_response h b code answered)
 counts c new b code answered h s inside invite first marks =
-    let a : Response = record { round = slice_index h.branches b; branch = b; code = code; answered = answered } in
+    let a : BranchResponse = record { round = slice_index h.branches b; branch = b; code = code; answered = answered } in
     let long : length new.marks.items ≡ length h.branches = ap length marks ∙ (length-set c.marks.items b _ ∙ s.count) in
     record {
       invite = invite ∙ s.invite;
@@ -102,7 +102,7 @@ counts c new b code answered h s inside invite first marks =
     }
 
 -- a kept response of a branch, and the mark that says so
-pub mark_of_kept : (c : Context) (h : History) → HasHistory c h → (a : Response) → IsKeptFinal h a →
+pub mark_of_kept : (c : Context) (h : History) → HasHistory c h → (a : BranchResponse) → IsKeptFinal h a →
     (a.branch < length h.branches) × (branch_mark c a.branch ≡ Kept a.code) × (a.round ≡ slice_index h.branches a.branch)
 mark_of_kept c h s a kept =
     let known = first_has (λ x. (x.branch < length h.branches) × (x.round ≡ slice_index h.branches x.branch)) a.branch h.responses a kept.counts s.known in
@@ -111,12 +111,12 @@ mark_of_kept c h s a kept =
     is_mark : (m : BranchMark) → Says h.responses a.branch m → m ≡ Kept a.code
     is_mark Open none = absurd (first_not_none a.branch h.responses a kept.counts none)
     is_mark Succeeded says =
-        absurd (not_both a.code (subst (λ (x : Response). IsSuccess x.code) (first_unique a.branch h.responses says.0 a says.1 kept.counts) says.2) kept.failure)
-    is_mark (Kept code) says = ap Kept (sym says.2 ∙ ap (λ (x : Response). x.code) (first_unique a.branch h.responses says.0 a says.1 kept.counts))
+        absurd (not_both a.code (subst (λ (x : BranchResponse). IsSuccessCode x.code) (first_unique a.branch h.responses says.0 a says.1 kept.counts) says.2) kept.failure)
+    is_mark (Kept code) says = ap Kept (sym says.2 ∙ ap (λ (x : BranchResponse). x.code) (first_unique a.branch h.responses says.0 a says.1 kept.counts))
 
 -- a branch that is marked so has a kept response
 pub record KeptAt (h : History) (n code : ℕ) : Type 0 where
-  pub response : Response
+  pub response : BranchResponse
   pub kept : IsKeptFinal h response
   pub branch : response.branch ≡ n
   pub code_is : response.code ≡ code
@@ -129,7 +129,7 @@ kept_at c h s n code inside is =
     let known = first_has (λ x. (x.branch < length h.branches) × (x.round ≡ slice_index h.branches x.branch)) n h.responses says.0 says.1 s.known in
     record {
       response = says.0;
-      kept = record { counts = subst (λ k. FirstFinal k h.responses says.0) (sym e) says.1; failure = subst (λ k. IsFailure k) (sym says.2) says.3 };
+      kept = record { counts = subst (λ k. FirstFinal k h.responses says.0) (sym e) says.1; failure = subst (λ k. IsFailureCode k) (sym says.2) says.3 };
       branch = e;
       code_is = says.2;
       round = known.1 ∙ ap (λ k. slice_index h.branches k) e;
@@ -155,7 +155,7 @@ to_cancel_is c h s invite n = (
 )
 
 -- the branches with a challenge in this round
-challenge_mark : (m : BranchMark) → IsChallengeMark m → (code : ℕ) × (m ≡ Kept code) × IsChallenge code
+challenge_mark : (m : BranchMark) → IsChallengeMark m → (code : ℕ) × (m ≡ Kept code) × IsChallengeCode code
 challenge_mark Open w = absurd w
 challenge_mark Succeeded w = absurd w
 challenge_mark (Kept code) w = (code, refl, w)
@@ -170,7 +170,7 @@ challenged_is c h s n = (there, back)
         let inside : n < length h.branches = subst (λ l. n < l) s.count w.0 in
         let m = challenge_mark (branch_mark c n) w.2 in
         let k = kept_at c h s n m.0 inside m.1 in
-        (k.response, record { kept = k.kept; now = k.round ∙ (s.current n inside).0 w.1 }, k.branch, subst IsChallenge (sym k.code_is) m.2)
+        (k.response, record { kept = k.kept; now = k.round ∙ (s.current n inside).0 w.1 }, k.branch, subst IsChallengeCode (sym k.code_is) m.2)
 
     back : IsChallenged h n → (n < branch_count c) × (c.first ≤ n) × IsChallengeMark (branch_mark c n)
     back w =

@@ -4,8 +4,8 @@ use Rattle.std.specs.List.{AllByRecursion}
 use Rattle.fork_core.specs.declared.context.Context.{Context}
 use Rattle.fork_core.specs.declared.context.BranchMark.{BranchMark}
 use Rattle.fork_core.specs.declared.context.BranchMark.TheVariants.{Open, Succeeded, Kept}
-use Rattle.fork_core.specs.Choices.{IsChallenge}
-use Rattle.fork_core.specs.Responses.{Response, History, IsSuccess, IsFailure, HasNoFinal, FirstFinal}
+use Rattle.fork_core.specs.Choices.{IsChallengeCode}
+use Rattle.fork_core.specs.Responses.{BranchResponse, History, IsSuccessCode, IsFailureCode, HasNoFinal, FirstFinal}
 
 -- how many branches a context has
 abbrev pub branch_count : Context → ℕ
@@ -35,13 +35,13 @@ is_kept_mark (Kept code) = true
 abbrev pub IsChallengeMark : BranchMark → Type 0
 IsChallengeMark Open = ⊥
 IsChallengeMark Succeeded = ⊥
-IsChallengeMark (Kept code) = IsChallenge code
+IsChallengeMark (Kept code) = IsChallengeCode code
 
 -- what a mark says of the responses of its branch
-abbrev pub Says : List Response → ℕ → BranchMark → Type 0
+abbrev pub Says : List BranchResponse → ℕ → BranchMark → Type 0
 Says responses branch Open = HasNoFinal responses branch
-Says responses branch Succeeded = (a : Response) × FirstFinal branch responses a × IsSuccess a.code
-Says responses branch (Kept code) = (a : Response) × FirstFinal branch responses a × (a.code ≡ code) × IsFailure code
+Says responses branch Succeeded = (a : BranchResponse) × FirstFinal branch responses a × IsSuccessCode a.code
+Says responses branch (Kept code) = (a : BranchResponse) × FirstFinal branch responses a × (a.code ≡ code) × IsFailureCode code
 
 -- A context stands for a history: a new one for one without a branch, and each call leads from one that it stands for to the
 -- next.

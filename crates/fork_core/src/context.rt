@@ -2,7 +2,7 @@
 
 ghost use Rattle.std.specs.Prelude.{◌≡◌, ◌≢◌, ◌<◌, ◌≤◌, ◌↔◌, ◌⊎◌, ℕ, Bool, IsTrue, Some, None, IfSome, IfNone, MatchOption, length, drop};
 ghost use Rattle.std.specs.List.{list_all};
-ghost use Rattle.fork_core.specs.Responses.{Response, History, IsKeptNow, at_first, with_branch, next_round, with_response};
+ghost use Rattle.fork_core.specs.Responses.{BranchResponse, History, IsKeptNow, at_first, with_branch, next_round, with_response};
 ghost use Rattle.fork_core.specs.Choices.{GoesOnNow, IsToKeep, IsBest, HasFailed, AreAllNumbers, IsToCancel, Joins};
 ghost use Rattle.fork_core.specs.Decisions.{best_of, has_failed, to_cancel, challenges};
 ghost use Rattle.fork_core.specs.Preference.{IsBetterCode};
@@ -128,10 +128,10 @@ impl Context {
     /// The branch with the best kept response of this round; `None` exactly where no final response of the round is kept.
     pub fn best(&self) -> Option<u8>
         ensures found { (h : History) → HasHistory self.now h →
-            IfSome result (λ b. (a : Response) × (a.branch ≡ b) × IsBest h a) }
-        ensures none { (h : History) → HasHistory self.now h → IfNone result ((a : Response) → ¬ IsKeptNow h a) }
+            IfSome result (λ b. (a : BranchResponse) × (a.branch ≡ b) × IsBest h a) }
+        ensures none { (h : History) → HasHistory self.now h → IfNone result ((a : BranchResponse) → ¬ IsKeptNow h a) }
         ensures value { (h : History) → HasHistory self.now h →
-            MatchOption result (best_of h ≡ None) (λ b. (a : Response) × (a.branch ≡ b) × (best_of h ≡ Some a)) }
+            MatchOption result (best_of h ≡ None) (λ b. (a : BranchResponse) × (a.branch ≡ b) × (best_of h ≡ Some a)) }
     {
         let mut best = None;
         for b in self.first..self.marks.len() {

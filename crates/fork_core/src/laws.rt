@@ -2,7 +2,7 @@
 //! history are those that the relations name.
 
 ghost use Rattle.std.specs.Prelude.{◌≡◌, ◌≢◌, ◌⊎◌, ◌↔◌, ℕ, Some, IsNone, IsTrue, List};
-ghost use Rattle.fork_core.specs.Responses.{Response, History, IsKeptNow};
+ghost use Rattle.fork_core.specs.Responses.{BranchResponse, History, IsKeptNow};
 ghost use Rattle.fork_core.specs.Preference.{Preferred};
 ghost use Rattle.fork_core.specs.Choices.{AreAllNumbers, AreOfItsBranches, HasFailed, IsBest, IsToCancel, Joins};
 ghost use Rattle.fork_core.specs.Decisions.{best_of, to_cancel, challenges, has_failed};
@@ -16,13 +16,13 @@ pub fn preference_is_a_strict_order()
 
 /// A round has one best response at most.
 pub fn one_best_response()
-    ensures { (h : History) (a b : Response) → IsBest h a → IsBest h b → a ≡ b }
+    ensures { (h : History) (a b : BranchResponse) → IsBest h a → IsBest h b → a ≡ b }
 {}
 
 /// The best response as a function is the one that the relation names, and there is none exactly where none of the round is kept.
 pub fn best_of_is_the_best()
-    ensures some { (h : History) (r : Response) → (best_of h ≡ Some r) ↔ IsBest h r }
-    ensures none { (h : History) → IsNone (best_of h) ↔ ((r : Response) → ¬ IsKeptNow h r) }
+    ensures some { (h : History) (r : BranchResponse) → (best_of h ≡ Some r) ↔ IsBest h r }
+    ensures none { (h : History) → IsNone (best_of h) ↔ ((r : BranchResponse) → ¬ IsKeptNow h r) }
 {}
 
 /// The branches to cancel as a function are all those that the relation names, in order, and no other list is.
