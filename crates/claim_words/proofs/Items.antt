@@ -15,7 +15,7 @@ use Rattle.histories.specs.Runs.{folded, EachAnswers}
 use Rattle.histories.specs.Records.{recorded, records}
 use Rattle.histories.proofs.Lists.{records_append}
 use Rattle.claim_words.specs.Suspensions.{suspension, ended, opened, claimed, end_at, claim_end, after, suspensions, IsAnswer, ClaimEntry, IsClaimHistory}
-use Rattle.claim_words.specs.Words.{ways, code, by_of, state_of, word_of, answer}
+use Rattle.claim_words.specs.Words.{ways, code, by_of, state_of, word_of, end_by_word}
 use Rattle.claim_words.specs.Claims.{maker_of, author, made_by, of_slot}
 
 -- What holds of each way: a new way adds a line to each of these four, and to `code` and `by_of`
@@ -166,12 +166,12 @@ or_right true b e = refl
 or_right false b e = e
 
 -- the answer at a word is the answer of its list
-pub answer_law : (xs : List (Option By)) (s : ℕ) → answer (word_of xs) s ≡ claim_end xs s
-answer_law xs s =
+pub end_by_word_law : (xs : List (Option By)) (s : ℕ) → end_by_word (word_of xs) s ≡ claim_end xs s
+end_by_word_law xs s =
     let l = latest_of xs in
     let m = state_at xs in
     let Inner : ClaimEnd = cond (eqb (word_of xs % ways) 0) (Won (s - 1)) (Lost (by_of (word_of xs % ways))) in
-    let same : answer (word_of xs) s ≡ cond (eqb s 0 || nat_lt (length xs) s) Unknown (cond (nat_lt s (length xs)) (Past (length xs)) Inner) = λ i. cond (eqb s 0 || nat_lt (l i) s) Unknown (cond (nat_lt s (l i)) (Past (l i)) Inner) in
+    let same : end_by_word (word_of xs) s ≡ cond (eqb s 0 || nat_lt (length xs) s) Unknown (cond (nat_lt s (length xs)) (Past (length xs)) Inner) = λ i. cond (eqb s 0 || nat_lt (l i) s) Unknown (cond (nat_lt s (l i)) (Past (l i)) Inner) in
     same ∙ dite (ℕ_discrete s (length xs))
     (λ e. ap (λ z. cond (eqb s 0 || nat_lt (length xs) s) Unknown (cond (nat_lt s (length xs)) (Past (length xs)) z))
     (ap (λ z. cond (eqb z 0) (Won (s - 1)) (Lost (by_of z))) (m ∙ ap (λ z. state_of (suspension xs z)) (sym e)) ∙ end_law (suspension xs s) s))

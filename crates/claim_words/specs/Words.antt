@@ -29,5 +29,5 @@ abbrev pub word_of : Suspensions → ℕ
 word_of xs = ways * length xs + state_of (suspension xs (length xs))
 
 -- what a claim comes to at a word
-abbrev pub answer : ℕ → ℕ → ClaimEnd
-answer word serial = cond (serial == 0 || nat_lt (word / ways) serial) Unknown (cond (nat_lt serial (word / ways)) (Past (word / ways)) (cond (word % ways == 0) (Won (serial - 1)) (Lost (by_of (word % ways)))))
+abbrev pub end_by_word : ℕ → ℕ → ClaimEnd
+end_by_word word serial = cond (serial == 0 || nat_lt (word / ways) serial) Unknown (cond (nat_lt serial (word / ways)) (Past (word / ways)) (cond (word % ways == 0) (Won (serial - 1)) (Lost (by_of (word % ways)))))

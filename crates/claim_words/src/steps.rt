@@ -58,9 +58,9 @@ impl Play<(), Clerk> for Learn {
     ghost then = { TellsNewest };
 }
 
-pub(crate) struct Deal;
+pub(crate) struct DealClaimSeat;
 
-impl Split<Clerk> for Deal {
+impl Split<Clerk> for DealClaimSeat {
     ghost left = { dealt };
 
     ghost right = { fresh };
@@ -74,9 +74,9 @@ impl Split<Clerk> for Noting {
     ghost right = { note_of };
 }
 
-pub(crate) struct Gather;
+pub(crate) struct GatherClaimSeat;
 
-impl Join<Clerk> for Gather {
+impl Join<Clerk> for GatherClaimSeat {
     ghost both = { joined };
 
     ghost spent = { spent };

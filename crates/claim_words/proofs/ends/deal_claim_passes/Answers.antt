@@ -3,7 +3,7 @@ use mathlib.Core.Option.{some}
 use lib.ListN.{get_elem?}
 use Rattle.claim_words.specs.Claims.{maker, desk, dealt, fresh}
 use Rattle.claim_words.proofs.Seats.{deals, one_more}
-use Rattle.claim_words.proofs.ends.deal_passes.Goals as goal
+use Rattle.claim_words.proofs.ends.deal_claim_passes.Goals as goal
 
 pub split_seat-seat-requires : goal.split_seat-seat-requires
 split_seat-seat-requires c = let i = c.loop-number.invariant in (i.table, c.requires.maker.3, deals _ _ _ c.loop-number.number _ (ap (λ z. z.0) i.view ∙ ap (λ w. maker w c.loop-number.number) (sym c.requires.maker.2)) (let k = c.requires.maker.2 in omega arith))
