@@ -109,8 +109,8 @@ TellsMissed j s by st m r m' = HasClaimed st.word j s by m.0 Unknown m'.0 × (m'
 abbrev pub TellsNewest : Step (Unit {0}) → SeatMe → ℕ → SeatMe → Type 0
 TellsNewest st m r m' = (m' ≡ m) × (m.0.floor ≤ m.0.last)
 
-abbrev pub spent : Clerk
-spent = record { kind = Spent; number = 0; last = 0; floor = 0; slot = 0; seen = []; mine = []; got = [] }
+abbrev pub spent_clerk : Clerk
+spent_clerk = record { kind = Spent; number = 0; last = 0; floor = 0; slot = 0; seen = []; mine = []; got = [] }
 
 -- what makes the passes and Openers, after it made so many
 abbrev pub maker : ℕ → ℕ → Clerk
@@ -123,16 +123,16 @@ desk n k = record { kind = Desk; number = n; last = 0; floor = 0; slot = k; seen
 abbrev pub dealt : Clerk → Clerk
 dealt v = record v { number = v.number + 1 }
 
-abbrev pub fresh : Clerk → Clerk
-fresh v = desk v.number (v.number - v.slot)
+abbrev pub fresh_desk : Clerk → Clerk
+fresh_desk v = desk v.number (v.number - v.slot)
 
 -- a note of what a pass has seen
 abbrev pub note_of : Clerk → Clerk
 note_of v = record { kind = Note; number = 0; last = 0; floor = 0; slot = 0; seen = v.seen; mine = []; got = [] }
 
 -- a pass that took in the next number
-abbrev pub joined : Clerk → Clerk → Clerk
-joined v w = record v { seen = longer_lists v.seen w.seen; got = v.got ++ w.mine ∷ [] }
+abbrev pub joined_desks : Clerk → Clerk → Clerk
+joined_desks v w = record v { seen = longer_lists v.seen w.seen; got = v.got ++ w.mine ∷ [] }
 
 -- an Opener that took in a note
 abbrev pub met : Clerk → Clerk → Clerk

@@ -1,7 +1,7 @@
 use Rattle.std.proofs.Common.{rules, ◌≡◌, ◌-◌, ℕ, arith, refl, sym, ap, ◌∙◌, subst, []}
 use mathlib.Core.Option.{some}
 use lib.ListN.{get_elem?}
-use Rattle.claim_words.specs.Claims.{maker, desk, dealt, fresh}
+use Rattle.claim_words.specs.Claims.{maker, desk, dealt, fresh_desk}
 use Rattle.claim_words.proofs.Seats.{deals, one_more}
 use Rattle.claim_words.proofs.ends.deal_claim_passes.Goals as goal
 
@@ -16,6 +16,6 @@ loop-number-preserved c = let i = c.loop-number.invariant in let e = c.split_sea
   passes = subst (λ ps. (j : ℕ) (q : _) → get_elem? ps j ≡ some q → (q.seat.table_id ≡ c.args.words.now.table_id) × (q.seat.me ≡ (desk j 0, [])) × (q.number ≡ j)) (sym p.items)
       (one_more (λ j q. (q.seat.table_id ≡ c.args.words.now.table_id) × (q.seat.me ≡ (desk j 0, [])) × (q.number ≡ j)) c.loop-number.passes.items _ i.passes
       (subst (λ (n : ℕ). (c.split_seat-seat.result.table_id ≡ c.args.words.now.table_id) × (c.split_seat-seat.result.me ≡ (desk n 0, [])) × (m ≡ n)) (let l = c.loop-number.passes.ok.0 in let n = i.count in omega arith)
-      (e.3 ∙ i.table, e.4 ∙ (ap (λ z. (fresh z.0, [])) i.view ∙ ap (λ (k : ℕ). (desk m k, [])) (let a : m - c.args.workers ≡ 0 = omega arith in a)), refl)));
+      (e.3 ∙ i.table, e.4 ∙ (ap (λ z. (fresh_desk z.0, [])) i.view ∙ ap (λ (k : ℕ). (desk m k, [])) (let a : m - c.args.workers ≡ 0 = omega arith in a)), refl)));
   room = search rules;
 }
