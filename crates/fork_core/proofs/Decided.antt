@@ -82,7 +82,7 @@ among_is n xs e = let w = any_mem (λ (r : BranchResponse). r.branch == n) xs e 
 is_among_of : (n : ℕ) (xs : List BranchResponse) (r : BranchResponse) → Mem xs r → r.branch ≡ n → is_branch_of n xs ≡ true
 is_among_of n xs r m is = mem_any (λ (s : BranchResponse). s.branch == n) xs r m (eq-eqb r.branch n is)
 
-none_is : (n : ℕ) (xs : List BranchResponse) → not (is_branch_of n (first_finals xs)) ≡ true → HasNoFinal xs n
+pub none_is : (n : ℕ) (xs : List BranchResponse) → not (is_branch_of n (first_finals xs)) ≡ true → HasNoFinal xs n
 none_is n xs e =
     elim (first_or_none n xs) [
       | inl none ↦ none
@@ -92,7 +92,7 @@ none_is n xs e =
           (is_among_of n (first_finals xs) w.0 (mem_of_first n xs w.0 w.1) (first_branch n xs w.0 w.1)))
     ]
 
-is_none : (n : ℕ) (xs : List BranchResponse) → HasNoFinal xs n → not (is_branch_of n (first_finals xs)) ≡ true
+pub is_none : (n : ℕ) (xs : List BranchResponse) → HasNoFinal xs n → not (is_branch_of n (first_finals xs)) ≡ true
 is_none n xs none =
     ap not
     (false_from_ne_true (is_branch_of n (first_finals xs))

@@ -5,3 +5,4 @@ pub mod Best
 pub mod Members
 pub mod Decided
 pub mod Failing
+pub mod GoingOn

@@ -4,7 +4,7 @@ ghost use Rattle.std.specs.Prelude.{◌≡◌, ◌≢◌, ◌<◌, ◌≤◌, �
 ghost use Rattle.std.specs.List.{list_all};
 ghost use Rattle.fork_core.specs.Responses.{BranchResponse, History, IsKeptNow, at_first, with_branch, next_round, with_response};
 ghost use Rattle.fork_core.specs.Choices.{GoesOnNow, IsToKeep, IsBest, HasFailed, AreAllNumbers, IsToCancel, Joins};
-ghost use Rattle.fork_core.specs.Decisions.{best_of, has_failed, to_cancel, challenges};
+ghost use Rattle.fork_core.specs.Decisions.{best_of, challenges, forwarding_of, has_failed, to_cancel};
 ghost use Rattle.fork_core.specs.Preference.{IsBetterCode};
 ghost use Rattle.fork_core.specs.Histories.{HasHistory, IsChallengeMark, branch_count, is_kept_mark, branch_mark, mark_after};
 
@@ -103,9 +103,20 @@ impl Context {
         ensures lists { (h : History) → HasHistory self.old h → HasHistory self.new (with_response h b code answered) }
         ensures now { (h : History) → HasHistory self.old h → (result ≡ Forwarding.Now) ↔ GoesOnNow h code answered }
         ensures kept { (h : History) → HasHistory self.old h → (result ≡ Forwarding.Kept) ↔ IsToKeep h b code }
+        ensures value { (h : History) → HasHistory self.old h → result ≡ forwarding_of h b code answered }
+    {
+        let forwarding = self.forwarding(b, code, answered);
+        self.count(b, code);
+        forwarding
+    }
+
+    /// What becomes of such a response.
+    fn forwarding(&self, b: u8, code: u16, answered: bool) -> Forwarding
+        requires { b < branch_count self.now }
+        ensures now { (h : History) → HasHistory self.now h → (result ≡ Forwarding.Now) ↔ GoesOnNow h code answered }
+        ensures kept { (h : History) → HasHistory self.now h → (result ≡ Forwarding.Kept) ↔ IsToKeep h b code }
     {
         let open = self.is_open(usize::from(b));
-        self.count(b, code);
         match code {
             101..=199 if !answered => Forwarding::Now,
             200..=299 if self.invite || !answered => Forwarding::Now,

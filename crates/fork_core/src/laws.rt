@@ -1,11 +1,12 @@
 //! What holds of the choices: the preference is an order, so that there is one best response, and the choices as functions of the
 //! history are those that the relations name.
 
-ghost use Rattle.std.specs.Prelude.{◌≡◌, ◌≢◌, ◌⊎◌, ◌↔◌, ℕ, Some, IsNone, IsTrue, List};
+ghost use Rattle.std.specs.Prelude.{◌≡◌, ◌≢◌, ◌⊎◌, ◌↔◌, ℕ, Bool, Some, IsNone, IsTrue, List};
+ghost use Rattle.fork_core.specs.declared.context.Forwarding.TheVariants.{Now, Kept};
 ghost use Rattle.fork_core.specs.Responses.{BranchResponse, History, IsKeptNow};
 ghost use Rattle.fork_core.specs.Preference.{Preferred};
-ghost use Rattle.fork_core.specs.Choices.{AreAllNumbers, AreOfItsBranches, HasFailed, IsBest, IsToCancel, Joins};
-ghost use Rattle.fork_core.specs.Decisions.{best_of, to_cancel, challenges, has_failed};
+ghost use Rattle.fork_core.specs.Choices.{AreAllNumbers, AreOfItsBranches, GoesOnNow, HasFailed, IsBest, IsToCancel, IsToKeep, Joins};
+ghost use Rattle.fork_core.specs.Decisions.{best_of, challenges, forwarding_of, has_failed, to_cancel};
 
 /// The preference is a strict total order on the responses of different branches.
 pub fn preference_is_a_strict_order()
@@ -40,4 +41,12 @@ pub fn challenges_are_all()
 /// That a round has failed as a function is what the relation says.
 pub fn has_failed_is_failed()
     ensures { (h : History) → IsTrue (has_failed h) ↔ HasFailed h }
+{}
+
+/// What becomes of a response as a function is what the relations say.
+pub fn forwarding_is_decided()
+    ensures now { (h : History) (branch code : ℕ) (answered : Bool) →
+        (forwarding_of h branch code answered ≡ Now) ↔ GoesOnNow h code answered }
+    ensures kept { (h : History) (branch code : ℕ) (answered : Bool) →
+        (forwarding_of h branch code answered ≡ Kept) ↔ IsToKeep h branch code }
 {}

@@ -13,6 +13,6 @@ mod tests;
 
 pub use context::{Context, Forwarding};
 pub use laws::{
-    best_of_is_the_best, challenges_are_all, has_failed_is_failed, one_best_response,
-    preference_is_a_strict_order, to_cancel_are_all,
+    best_of_is_the_best, challenges_are_all, forwarding_is_decided, has_failed_is_failed,
+    one_best_response, preference_is_a_strict_order, to_cancel_are_all,
 };
