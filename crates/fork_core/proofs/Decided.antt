@@ -1,20 +1,19 @@
 -- The functions of the history give what the relations name.
-use Rattle.std.proofs.Common.{◌≡◌, ◌≢◌, ℕ, ◌<◌, ◌≤◌, ◌⊎◌, ◌↔◌, inl, inr, Bool, true, false, not, ◌&&◌, ◌||◌, ◌==◌, nat_lt, nat_le, if◌then◌else◌, Option, Some, None, List, [], ◌∷◌, length, filter, slice_index, refl, sym, ◌∙◌, ap, subst, arith}
+use Rattle.std.proofs.Common.{◌≡◌, ℕ, ◌<◌, ◌⊎◌, ◌↔◌, inl, inr, Bool, true, not, ◌&&◌, ◌==◌, nat_lt, if◌then◌else◌, Option, Some, None, List, [], ◌∷◌, length, filter, slice_index, refl, sym, ◌∙◌, ap, subst, arith}
 use Rattle.std.specs.Bool.{Decides}
-use Rattle.std.specs.Option.{MatchOption, IsNone}
-use Rattle.std.specs.List.{Contains, AllByRecursion, list_any, list_all, range_with_len}
-use Rattle.std.specs.List.Sorted.{IsStrictlyIncreasing}
+use Rattle.std.specs.Option.{IsNone}
+use Rattle.std.specs.List.{range_with_len}
 use Rattle.std.proofs.lemmas.Bool.{cases_Bool, both_ways, cases_eq, not-true, eqb-true, eq-eqb, ne_eqb, and_parts, and_from, or_cases, or_left, or_right, false_from_ne_true}
 use Rattle.std.proofs.lemmas.Bool.Decides.{nat_tests}
 use Rattle.std.proofs.lemmas.List.Kept.{IsStrictlyIncreasing-filter}
-use Rattle.fork_core.specs.Responses.{BranchResponse, History, IsFailureCode, IsFinalCode, HasNoFinal, FirstFinal, IsKeptFinal, IsKeptNow}
+use Rattle.fork_core.specs.Responses.{BranchResponse, History, IsFailureCode, IsFinalCode, HasNoFinal, FirstFinal, IsKeptNow}
 use Rattle.fork_core.specs.Responses.FirstFinal.{here, after}
 use Rattle.fork_core.specs.Preference.{Preferred, group_of, place_in_class}
 use Rattle.fork_core.specs.Choices.{IsBest, AreAllNumbers, IsToCancel, IsChallengeCode, IsChallenged, Joins, HasFailed, AreOfItsBranches}
 use Rattle.fork_core.specs.Decisions.{is_final_code, is_failure_code, is_challenge_code, of_others, first_finals, kept_now, is_preferred, better, most_preferred, best_of, branches_of, is_branch_of, to_cancel, is_challenged, challenges, has_failed}
 use Rattle.fork_core.specs.declared.context.Context.{Context}
 use Rattle.fork_core.specs.Histories.{HasHistory}
-use Rattle.fork_core.proofs.Finals.{all_map, first_branch, first_final, first_has, first_not_none}
+use Rattle.fork_core.proofs.Finals.{all_map, first_branch, first_has, first_not_none}
 use Rattle.fork_core.proofs.Members.{Mem, mem_contains, contains_mem, mem_filter, filter_mem, any_mem, mem_any, all_mem, mem_all, range_mem, mem_range, range_rises, rises, one_list}
 use Rattle.fork_core.proofs.Best.{Before, to_before, from_before, irreflexive, transitive, one_best}
 

@@ -1,5 +1,5 @@
 -- The round has failed just where each of its marks is kept.
-use Rattle.std.proofs.Common.{◌≡◌, ℕ, zero, suc, ◌<◌, ◌≤◌, Bool, true, false, List, [], ◌∷◌, length, drop, get_or, slice_index, refl, sym, subst, arith}
+use Rattle.std.proofs.Common.{◌≡◌, ℕ, zero, suc, ◌<◌, ◌≤◌, Bool, true, List, [], ◌∷◌, length, drop, get_or, refl, sym, subst, arith}
 use Rattle.std.specs.List.{list_all}
 use Rattle.std.proofs.lemmas.Bool.{false≢true, and_parts, and_from}
 use Rattle.std.proofs.lemmas.Bool.Decides.{same_from_decides}
@@ -9,7 +9,7 @@ use Rattle.fork_core.specs.declared.context.BranchMark.TheVariants.{Open, Succee
 use Rattle.fork_core.specs.Responses.{BranchResponse, History, FirstFinal, IsSuccessCode, IsFailureCode}
 use Rattle.fork_core.specs.Choices.{HasFailed}
 use Rattle.fork_core.specs.Decisions.{has_failed}
-use Rattle.fork_core.specs.Histories.{HasHistory, Says, branch_count, branch_mark, is_kept_mark}
+use Rattle.fork_core.specs.Histories.{HasHistory, Says, branch_mark, is_kept_mark}
 use Rattle.fork_core.proofs.Finals.{first_unique, first_not_none, not_both}
 use Rattle.fork_core.proofs.Decided.{failed_is, is_failed}
 

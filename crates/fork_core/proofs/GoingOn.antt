@@ -1,11 +1,11 @@
 -- What becomes of a response, as a function.
-use Rattle.std.proofs.Common.{◌≡◌, ◌≢◌, ℕ, ◌<◌, ◌≤◌, ◌⊎◌, ◌↔◌, inl, inr, Bool, true, false, not, ◌&&◌, ◌||◌, nat_le, nat_lt, if◌then◌else◌, refl, sym, subst, arith}
+use Rattle.std.proofs.Common.{◌≡◌, ◌≢◌, ℕ, ◌↔◌, inl, inr, Bool, true, false, not, ◌&&◌, ◌||◌, nat_le, nat_lt, if◌then◌else◌, refl, sym, subst, arith}
 use Rattle.std.specs.Bool.{Decides}
-use Rattle.std.proofs.lemmas.Bool.{cases_Bool, false≢true, both_ways, or_cases, or_left, or_right, and_parts, and_from, not-true, not_from_false}
+use Rattle.std.proofs.lemmas.Bool.{cases_Bool, or_cases, or_left, or_right, and_parts, and_from, not-true, not_from_false}
 use Rattle.std.proofs.lemmas.Bool.Decides.{nat_tests}
 use Rattle.fork_core.specs.declared.context.Forwarding.{Forwarding}
 use Rattle.fork_core.specs.declared.context.Forwarding.TheVariants.{Now, Kept, Nothing}
-use Rattle.fork_core.specs.Responses.{History, IsProvisionalCode, IsSuccessCode, IsFailureCode, HasNoFinal}
+use Rattle.fork_core.specs.Responses.{History, IsProvisionalCode, IsSuccessCode, IsFailureCode}
 use Rattle.fork_core.specs.Choices.{GoesOnNow, IsToKeep}
 use Rattle.fork_core.specs.Decisions.{first_finals, is_branch_of, goes_on_now, is_to_keep, forwarding_of}
 use Rattle.fork_core.proofs.Decided.{none_is, is_none}

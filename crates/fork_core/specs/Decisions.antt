@@ -1,6 +1,6 @@
 -- The choices of `Choices` as functions of the history, for definitions that go on from a choice. That each is what the relation
 -- names is a law of this crate.
-use Rattle.std.specs.Prelude.{◌≡◌, ℕ, ◌==◌, ◌&&◌, ◌||◌, not, Bool, nat_le, nat_lt, if◌then◌else◌, Option, Some, None, List, [], ◌∷◌, length, filter, slice_index}
+use Rattle.std.specs.Prelude.{ℕ, ◌==◌, ◌&&◌, ◌||◌, not, Bool, nat_le, nat_lt, if◌then◌else◌, Option, Some, None, List, [], ◌∷◌, length, filter, slice_index}
 use Rattle.std.specs.List.{list_all, list_any, range_with_len}
 use Rattle.fork_core.specs.declared.context.Forwarding.{Forwarding}
 use Rattle.fork_core.specs.declared.context.Forwarding.TheVariants.{Now, Kept, Nothing}
