@@ -1,7 +1,6 @@
 //! One field more in a written text.
 ghost use Rattle.std.specs.Prelude.{◌≡◌, ◌≤◌, ◌<◌, ◌+◌, ◌++◌, drop, length, take, IfSome, IsTrue};
 ghost use Rattle.sip_words.specs.Spans.{IsWithin};
-ghost use Rattle.sip_scan.specs.Lines.{skipped, is_crlf};
 ghost use Rattle.sip_msg.specs.Basis.{first_from};
 ghost use Rattle.msg_edits.specs.Writing.{IsWritten};
 ghost use Rattle.sip_build.specs.Parts.{part};
