@@ -16,4 +16,14 @@ pub mod Placed
 pub mod TaggedTo
 pub mod Values
 pub mod StampedVia
+pub mod Around
+pub mod StampedVias
 pub mod Replying
+pub mod Renewed
+pub mod Again
+pub mod NextValue
+pub mod Below
+pub mod StartWith
+pub mod HopsField
+pub mod Groups
+pub mod HopsList

@@ -3,6 +3,7 @@ use Rattle.std.specs.Prelude.{◌≡◌, ◌≢◌, false, ℕ, ◌++◌, List, 
 use Rattle.std.specs.List.{filter, flat_map}
 use Rattle.sip_words.specs.declared.Span.{Span}
 use Rattle.sip_fields.specs.declared.via.Via.{Via}
+use Rattle.sip_fields.specs.Via.{via_at}
 use Rattle.sip_scan.specs.declared.field.HeaderSpan.{HeaderSpan}
 use Rattle.sip_scan.specs.declared.field.Kind.{Kind}
 use Rattle.sip_scan.specs.declared.field.Kind.TheVariants as kind
@@ -80,18 +81,37 @@ abbrev pub behind_first : Kind → List HeaderSpan → List HeaderSpan
 behind_first k [] = []
 behind_first k (f ∷ fs) = cond (is_of k f) fs (behind_first k fs)
 
--- the first value of the second Via field
-abbrev pub second_via : List ℕ → Message → Option Via
-second_via b m = via_of b (behind_first kind.Via m.head.fields.items)
+-- a Via value behind a comma in the field
+abbrev pub value_behind : List ℕ → Option HeaderSpan → ℕ → Option Via
+value_behind b None next = None
+value_behind b (Some f) next = via_at (take f.value.to b) next
 
--- the text c reads as the response m, which was received as b, without its first Via field: v is its top Via value, and
--- the start line, all other fields in order, their values and the body are as received
+-- the Via value below the top one: behind its comma, or the first one of the second Via field
+abbrev pub value_below : List ℕ → List HeaderSpan → Option ℕ → Option Via
+value_below b fields None = via_of b (behind_first kind.Via fields)
+value_below b fields (Some next) = value_behind b (first kind.Via fields) next
+
+abbrev pub second_via : List ℕ → Message → Option Via
+second_via b m = value_below b m.head.fields.items m.via.next
+
+-- the field of the top Via value without it, its comma and the LWS behind that; nothing where the value is alone there
+abbrev pub field_left : List ℕ → Via → Option ℕ → Option HeaderSpan → List ℕ
+field_left b v None field = []
+field_left b v (Some next) None = []
+field_left b v (Some next) (Some f) = slice_range b f.whole.from v.whole.from ++ slice_range b next f.whole.to
+
+-- the Via fields without the top value
+abbrev pub vias_below : List ℕ → Message → List ℕ
+vias_below b m = field_left b m.via m.via.next (first kind.Via m.head.fields.items) ++ flat_map (λ (f : HeaderSpan). part b f.whole) (filter (is_of kind.Via) (behind_first kind.Via m.head.fields.items))
+
+-- the text c reads as the response m, which was received as b, without its top Via value: v is on top, and the start
+-- line, all other fields in order, their values and the body are as received
 pub record IsRelayed (b : List ℕ) (m : Message) (v : Via) (c : List ℕ) (w : Message) : Type 0 where
   pub reads : Reads c w
   pub start : w.start ≡ m.start
   pub start_line : part c w.head.start ≡ part b m.head.start
   pub via : SameVia b v c w.via
-  pub vias : the_field kind.Via b m ++ all_fields kind.Via c w ≡ all_fields kind.Via b m
+  pub vias : all_fields kind.Via c w ≡ vias_below b m
   pub others : (k : Kind) → is_same_kind k kind.Via ≡ false → all_fields k c w ≡ all_fields k b m
   pub number : w.cseq.number ≡ m.cseq.number
   pub cseq_method : part c w.cseq.method ≡ part b m.cseq.method

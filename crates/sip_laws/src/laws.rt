@@ -40,9 +40,9 @@ pub fn a_response_reads()
         → (w : Incoming) × IsReply b m source code reason (reply_text b m source code reason) w }
 {}
 
-/// A response that is relayed without edits of a script reads, where its top Via value is alone in its field and a second
-/// Via field stands: with the first value of that field on top, and all else as received.
+/// A response that is relayed without edits of a script reads, where it has a second Via value: with that value on top, and
+/// all else as received.
 pub fn a_relayed_response_reads()
-    ensures { (b : List ℕ) (m : Incoming) (v : ViaValue) → Reads b m → IsResponse m.start → m.via.next ≡ None → second_via b m ≡ Some v
+    ensures { (b : List ℕ) (m : Incoming) (v : ViaValue) → Reads b m → IsResponse m.start → second_via b m ≡ Some v
         → (w : Incoming) × IsRelayed b m v (relayed_text b m []) w }
 {}
