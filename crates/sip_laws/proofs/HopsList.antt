@@ -23,7 +23,7 @@ use Rattle.sip_laws.proofs.Hops.{no_list}
 use Rattle.sip_laws.proofs.Relaying.{all_behind, find_behind, named_behind, named_here, none_named, found_is, other_kind}
 use Rattle.sip_laws.proofs.Around.{five, named_swap, all_swap}
 use Rattle.sip_laws.proofs.HopsField.{hops_field_of}
-use Rattle.sip_laws.proofs.Groups.{QuietAt, quiet_below, quiet_above, replaced_in}
+use Rattle.sip_laws.proofs.Groups.{QuietAt, quiet_piece, quiet_below, quiet_above, replaced_in}
 
 -- a list of fields after edits that change Max-Forwards alone
 pub record HoppedList (edits : List Edit) (i : ℕ) (ts : List FieldTree) : Type 0 where
@@ -102,10 +102,10 @@ hopped b pre last i ts f old n len e are lists is reads less =
     }
 
 -- one at which nothing is done
-pub unhopped : (edits : List Edit) (i : ℕ) (ts : List FieldTree) → ((k : ℕ) → i ≤ k → k < i + length (fields ts) → QuietAt edits k) → AllByRecursion IsFieldTree ts → AllByRecursion ListReads ts → HoppedList edits i ts
+abbrev pub unhopped : (edits : List Edit) (i : ℕ) (ts : List FieldTree) → ((k : ℕ) → i ≤ k → k < i + length (fields ts) → QuietAt edits k) → AllByRecursion IsFieldTree ts → AllByRecursion ListReads ts → HoppedList edits i ts
 unhopped edits i ts quiet are lists = record {
   new = ts;
-  text = Rattle.sip_laws.proofs.Groups.quiet_piece edits i (fields ts) quiet;
+  text = quiet_piece edits i (fields ts) quiet;
   are = are;
   lists = lists;
   same = λ k ne. refl;

@@ -27,3 +27,9 @@ pub mod StartWith
 pub mod HopsField
 pub mod Groups
 pub mod HopsList
+pub mod StartParts
+pub mod HopsMoved
+pub mod ForwardedText
+pub mod OwnField
+pub mod Forwarding
+pub mod Stateless

@@ -60,7 +60,7 @@ use Rattle.sip_laws.proofs.TaggedTo.{front_of, tagged_value, to_spelt}
 use Rattle.sip_laws.proofs.Values.{token_byte}
 
 -- the tag of a response is a word
-all_tokens : (w : List ℕ) → list_all (has Token) w ≡ true → AllByRecursion (λ b. has Token b ≡ true) w
+pub all_tokens : (w : List ℕ) → list_all (has Token) w ≡ true → AllByRecursion (λ b. has Token b ≡ true) w
 all_tokens [] h = tt
 all_tokens (b ∷ w) h = elim (cases_Bool (has Token b)) [ inl y ↦ (y, all_tokens w (rw y at h)) | inr n ↦ absurd (cc (rw n at h)) ]
 
@@ -69,14 +69,14 @@ all_drop zero w a = a
 all_drop (suc n) [] a = tt
 all_drop (suc n) (b ∷ w) a = all_drop n w a.1
 
-without : (w : List ℕ) → AllByRecursion (λ b. has Token b ≡ true) w → AllByRecursion (λ b. has Token b ≡ true) (without_cookie w)
+pub without : (w : List ℕ) → AllByRecursion (λ b. has Token b ≡ true) w → AllByRecursion (λ b. has Token b ≡ true) (without_cookie w)
 without w a = elim (cases_Bool (starts_with nat_eq w (codes "z9hG4bK"))) [ inl y ↦ rw y (all_drop 7 w a) | inr n ↦ rw n a ]
 
 values_of : (w : List ℕ) → AllByRecursion (λ b. has Token b ≡ true) w → AllByRecursion (λ b. has Value b ≡ true) w
 values_of [] a = tt
 values_of (b ∷ w) a = (token_byte b a.0, values_of w a.1)
 
-token_of_tree : (o : Option ParamTree) (w : List ℕ) → IfSome o (λ p. HasToken p.value) → tree_value o ≡ Some w → list_all (has Token) w ≡ true
+pub token_of_tree : (o : Option ParamTree) (w : List ℕ) → IfSome o (λ p. HasToken p.value) → tree_value o ≡ Some w → list_all (has Token) w ≡ true
 token_of_tree None w h e = absurd (none-some w e)
 token_of_tree (Some p) w h e = by_value p.value h e
   where

@@ -1,5 +1,5 @@
 -- What is said of the messages that the proxy sends: that they read, and as what (RFC 3261, sections 8.2.6, 9.1, 16.6, 16.7 and 17.1.1.3).
-use Rattle.std.specs.Prelude.{◌≡◌, ◌≢◌, false, ℕ, ◌++◌, List, [], ◌∷◌, Option, Some, None, IfSome, cond, codes, drop, take, slice_range, if◌then◌else◌}
+use Rattle.std.specs.Prelude.{◌≡◌, ◌≢◌, false, ℕ, ◌-◌, ◌++◌, List, [], ◌∷◌, Option, Some, None, IfSome, cond, codes, drop, take, slice_range, if◌then◌else◌}
 use Rattle.std.specs.List.{filter, flat_map}
 use Rattle.sip_words.specs.declared.Span.{Span}
 use Rattle.sip_fields.specs.declared.via.Via.{Via}
@@ -20,6 +20,8 @@ use Rattle.outside_ports.specs.declared.port.Addr.{Addr}
 use Rattle.sip_build.specs.Parts.{part, field_text, edited_vias, uri_of}
 use Rattle.sip_build.specs.Reply.{gives_tag, reply_tag, reply_to_field}
 use Rattle.sip_build.specs.Stamp.{stamp}
+use Rattle.sip_build.specs.Forwarded.{via_line}
+use Rattle.sip_build.specs.Laws.{own_value, own_via}
 
 -- the bytes of a part that may be absent
 abbrev pub bytes_at : List ℕ → Option Span → Option (List ℕ)
@@ -139,3 +141,33 @@ pub record IsReply (b : List ℕ) (m : Message) (source : Addr) (code : ℕ) (re
   pub number : w.cseq.number ≡ m.cseq.number
   pub cseq_method : part c w.cseq.method ≡ part b m.cseq.method
   pub body : w.end ≡ w.head.body
+
+-- the method of a request line
+abbrev pub method_in : List ℕ → Start → List ℕ
+method_in b (Request method uri) = part b method
+method_in b (Status code reason) = []
+
+-- Max-Forwards of a forwarded request: one less, or this number where the request has none
+abbrev pub hops_left : Option ℕ → ℕ → ℕ
+hops_left None absent = absent
+hops_left (Some hops) absent = hops - 1
+
+-- with how many fields a request can be forwarded: the proxy adds its Via, and Max-Forwards where it is absent
+abbrev pub most_fields : Option ℕ → ℕ
+most_fields None = 126
+most_fields (Some hops) = 127
+
+-- the text c reads as the request m, which was received as b from a source, forwarded to a URI: the proxy's Via is on top, with the address on which it listens
+-- and its branch; below it stand the Via fields of m in order, the top value stamped; it has the method of m, the URI and one hop less, and all other fields in
+-- order, their values and the body as received
+pub record IsForwarded (b : List ℕ) (m : Message) (source : Addr) (uri : List ℕ) (listen : Addr) (branch : List ℕ) (absent : ℕ) (c : List ℕ) (w : Message) : Type 0 where
+  pub reads : Reads c w
+  pub line : IsRequestLine c w.start (method_in b m.start) uri
+  pub via : SameVia (own_value listen branch) (own_via 0 listen branch) c w.via
+  pub vias : all_fields kind.Via c w ≡ via_line listen branch ++ edited_vias b (stamp m.via source) m.head.fields.items
+  pub max_forwards : w.max_forwards ≡ Some (hops_left m.max_forwards absent)
+  pub others : (k : Kind) → is_same_kind k kind.Via ≡ false → is_same_kind k kind.MaxForwards ≡ false → all_fields k c w ≡ all_fields k b m
+  pub number : w.cseq.number ≡ m.cseq.number
+  pub cseq_method : part c w.cseq.method ≡ part b m.cseq.method
+  pub to_tag : bytes_at c w.to.tag ≡ bytes_at b m.to.tag
+  pub body : slice_range c w.head.body w.end ≡ slice_range b m.head.body m.end

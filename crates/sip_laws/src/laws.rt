@@ -1,6 +1,9 @@
 //! Laws of what the proxy sends (RFC 3261, sections 8.2.6, 9.1, 16.6, 16.7 and 17.1.1.3). Each function states a law over
 //! every message that reads, and does nothing when it is called.
-ghost use Rattle.std.specs.Prelude.{◌≡◌, ◌≤◌, ◌<◌, ◌^◌, List, None, Some, [], codes, length, ℕ};
+ghost use Rattle.std.specs.Prelude.{◌≡◌, ◌≤◌, ◌<◌, ◌^◌, List, Some, [], codes, length, nat_eq, true, ℕ};
+ghost use Rattle.std.specs.List.{starts_with};
+ghost use Rattle.sip_words.specs.declared.bytes.Class.TheVariants.{Visible};
+ghost use Rattle.sip_words.specs.Grammar.{IsWord};
 ghost use Rattle.outside_ports.specs.declared.port.Addr.{Addr as Address};
 ghost use Rattle.sip_scan.specs.Grammar.{IsLine};
 ghost use Rattle.sip_build.specs.Reply.{reply_text};
@@ -11,7 +14,10 @@ ghost use Rattle.sip_msg.specs.Table.{Reads};
 ghost use Rattle.sip_msg.specs.declared.message.Message.{Message as Incoming};
 ghost use Rattle.sip_build.specs.Hop.{ack_text, cancel_text};
 ghost use Rattle.sip_build.specs.Relayed.{relayed_text};
-ghost use Rattle.sip_laws.specs.Sent.{IsOnItsWay, IsRelayed, IsReply, IsRequest, IsResponse, second_via, the_field};
+ghost use Rattle.sip_build.specs.Forwarded.{forwarded_text};
+ghost use Rattle.sip_build.specs.Stateless.{stateless_branch, stateless_ack_text};
+ghost use Rattle.sip_build.specs.Laws.{IsOwn};
+ghost use Rattle.sip_laws.specs.Sent.{IsForwarded, IsOnItsWay, IsRelayed, IsReply, IsRequest, IsResponse, most_fields, second_via, the_field};
 
 /// The ACK for a response to a request that was sent reads, where the request has at most 121 Route fields and the ACK at
 /// most 8,192 bytes: as an ACK on the way of that request, with To of the response.
@@ -45,4 +51,28 @@ pub fn a_response_reads()
 pub fn a_relayed_response_reads()
     ensures { (b : List ℕ) (m : Incoming) (v : ViaValue) → Reads b m → IsResponse m.start → second_via b m ≡ Some v
         → (w : Incoming) × IsRelayed b m v (relayed_text b m []) w }
+{}
+
+/// The request that the proxy forwards without edits of a script reads, where it has at most 127 fields (126 where it has
+/// no Max-Forwards), its new URI has no blank and no control byte, the branch is a token that begins with `z9hG4bK`, the
+/// Max-Forwards of a request without one is at most 255, and the text has at most 8,192 bytes: with the proxy's Via on
+/// top, the Via fields of the request in order below it, the top value stamped, its method, the new URI and one hop less,
+/// and all else as received.
+pub fn a_forwarded_request_reads()
+    ensures { (b : List ℕ) (m : Incoming) (source : Address) (uri : List ℕ) (listen : Address) (branch : List ℕ) (absent : ℕ) → Reads b m
+        → IsRequest m.start → source.port < 2 ^ 16 → IsWord Visible uri → IsOwn listen branch
+        → starts_with nat_eq branch (codes "z9hG4bK") ≡ true → absent < 256
+        → length m.head.fields.items ≤ most_fields m.max_forwards
+        → length (forwarded_text b m source [] uri listen branch absent) ≤ 8192
+        → (w : Incoming) × IsForwarded b m source uri listen branch absent (forwarded_text b m source [] uri listen branch absent) w }
+{}
+
+/// The ACK that the proxy forwards without a transaction and without edits of a script reads, under the same premises: as
+/// a forwarded request whose branch is `z9hG4bKsl.` and the branch of the top Via value without its cookie.
+pub fn a_stateless_ack_reads()
+    ensures { (b : List ℕ) (m : Incoming) (source : Address) (uri : List ℕ) (listen : Address) (absent : ℕ) → Reads b m
+        → IsRequest m.start → source.port < 2 ^ 16 → IsWord Visible uri → listen.ip < 2 ^ 32 → 0 < listen.port → listen.port < 2 ^ 16
+        → absent < 256 → length m.head.fields.items ≤ most_fields m.max_forwards
+        → length (stateless_ack_text b m source [] uri listen absent) ≤ 8192
+        → (w : Incoming) × IsForwarded b m source uri listen (stateless_branch b m.via.branch) absent (stateless_ack_text b m source [] uri listen absent) w }
 {}
