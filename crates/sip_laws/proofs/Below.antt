@@ -36,7 +36,7 @@ use Rattle.sip_laws.proofs.Reading.{Made, via_in, via_there}
 use Rattle.sip_laws.proofs.Known.{KnownBy, known_by}
 use Rattle.sip_laws.proofs.Relaying.{all_behind, find_behind, named_behind, named_here, none_named, behind_is, found_is, other_kind, front_is, start_of_tree, status_fits, not_long, sizes}
 use Rattle.sip_laws.proofs.Around.{front_text, via_field_place, Around, five, around, named_swap, all_swap}
-use Rattle.sip_laws.proofs.Renewed.{SameOthers, NewFields, renewed, hops_stay}
+use Rattle.sip_laws.proofs.Renewed.{SameKnown, NewFields, renewed, hops_stay}
 use Rattle.sip_laws.proofs.Again.{tree_again, kept_body, again}
 use Rattle.sip_laws.proofs.NextValue.{less_via}
 
@@ -56,7 +56,7 @@ pub record LeftVia (b : List ℕ) (m : Message) (s : Spelt b m) (v : Via) (c : L
   pub short : length (fields mid) ≤ length (Rattle.sip_scan.specs.Grammar.field s.cut.here)
   pub left : field_left b m.via m.via.next (first kind.Via m.head.fields.items) ≡ fields mid
 
-abbrev left_fields : (b : List ℕ) (m : Message) (s : Spelt b m) (k : KnownBy b m s.tree) (v : Via) (c : List ℕ) (l : LeftVia b m s v c) → Around b m s → SameOthers s.tree.fields (s.cut.before ++ (l.mid ++ s.cut.after)) × NewFields (s.cut.before ++ (l.mid ++ s.cut.after))
+abbrev left_fields : (b : List ℕ) (m : Message) (s : Spelt b m) (k : KnownBy b m s.tree) (v : Via) (c : List ℕ) (l : LeftVia b m s v c) → Around b m s → SameKnown s.tree.fields (s.cut.before ++ (l.mid ++ s.cut.after)) × NewFields (s.cut.before ++ (l.mid ++ s.cut.after))
 left_fields b m s k v c l a =
     let before = s.cut.before in
     let here = s.cut.here in
@@ -65,7 +65,7 @@ left_fields b m s k v c l a =
     let us = before ++ (l.mid ++ after) in
     let others : (n : Kind) → is_same_kind n kind.Via ≡ false → all_named n us ≡ all_named n ts = λ n ne. named_swap n before here l.mid after (other_kind n kind.Via here a.named ne) (named_past n kind.Via l.mid after ne l.named) ∙ ap (λ (z : List FieldTree). all_named n z) (sym s.cut.whole) in
     let hops = hops_stay ts us k.fields (others kind.MaxForwards refl) in (
-      λ n ne _. others n ne,
+      λ n ne _ _. others n ne,
       record {
         via_field = l.field;
         via = l.via;

@@ -168,7 +168,7 @@ forwarded_reads b m source uri listen branch absent r is small word own starts b
     let c = forwarded_text b m source [] uri listen branch absent in
     let e = forwarded_is b m s a source uri listen branch absent r p st h in
     let others = sent_others b m s a source listen branch absent st h o in
-    let x = renewed t.fields us k.fields others (sent_new b m s k a source listen branch absent st h o) in
+    let x = renewed t.fields us k.fields (λ n via hops _. others n via hops) (sent_new b m s k a source listen branch absent st h o) in
     let is_tree : IsMessageTree u = record {
       skipped = s.is.skipped;
       start = with_is_line p.method p.uri uri p.version (subst IsLine p.text s.is.start) p.method_word word;

@@ -155,8 +155,8 @@ in_before b m s k a absent body f is =
     let are = both_lists IsFieldTree b m s k.is.fields in
     let lists = both_lists ListReads b m s k.fields.lists in
     let number : (t : FieldTree) → find (is_named kind.MaxForwards) s.cut.before ≡ Some t → hops_at (value_text t) 0 ≡ Some n.number = λ t e.
-        let same : tree.0 ≡ t = same_Some tree.0 t (sym tree.1 ∙ tree_is b m s a ∙ rw e refl) in
-        subst (λ (x : FieldTree). hops_at (value_text x) 0 ≡ Some n.number) same n.reads in
+    let same : tree.0 ≡ t = same_Some tree.0 t (sym tree.1 ∙ tree_is b m s a ∙ rw e refl) in
+    subst (λ (x : FieldTree). hops_at (value_text x) 0 ≡ Some n.number) same n.reads in
     let h = hopped b (before_fields s.tree) (field s.cut.here ++ (fields s.cut.after ++ behind_fields s.tree)) (fields_from s.tree) s.cut.before f n.number (n.number - 1) p.from p.before are.0 lists.0 is number (small_less n.number) in
     let one : hops_edits b m absent ≡ replaced (number_in (take f.value.to b) f.value.from) (decimal (n.number - 1)) = ap (λ (o : Option HeaderSpan). with_hops b o m.max_forwards m.head.body absent) at_first ∙ ap (λ (x : ℕ). replaced (number_in (take f.value.to b) f.value.from) (decimal x)) less.0 in
     let left = less.1 in
@@ -190,8 +190,8 @@ in_after b m s k a absent body f none is =
     let are = both_lists IsFieldTree b m s k.is.fields in
     let lists = both_lists ListReads b m s k.fields.lists in
     let number : (t : FieldTree) → find (is_named kind.MaxForwards) s.cut.after ≡ Some t → hops_at (value_text t) 0 ≡ Some n.number = λ t e.
-        let same : tree.0 ≡ t = same_Some tree.0 t (sym tree.1 ∙ tree_is b m s a ∙ rw (none_before, e) refl) in
-        subst (λ (x : FieldTree). hops_at (value_text x) 0 ≡ Some n.number) same n.reads in
+    let same : tree.0 ≡ t = same_Some tree.0 t (sym tree.1 ∙ tree_is b m s a ∙ rw (none_before, e) refl) in
+    subst (λ (x : FieldTree). hops_at (value_text x) 0 ≡ Some n.number) same n.reads in
     let h = hopped b (front_text b m s ++ field s.cut.here) (behind_fields s.tree) (after_place b m s) s.cut.after f n.number (n.number - 1) p.to p.after are.1 lists.1 is number (small_less n.number) in
     let one : hops_edits b m absent ≡ replaced (number_in (take f.value.to b) f.value.from) (decimal (n.number - 1)) = ap (λ (o : Option HeaderSpan). with_hops b o m.max_forwards m.head.body absent) at_first ∙ ap (λ (x : ℕ). replaced (number_in (take f.value.to b) f.value.from) (decimal x)) less.0 in
     let left = less.1 in

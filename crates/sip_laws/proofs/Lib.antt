@@ -33,3 +33,5 @@ pub mod ForwardedText
 pub mod OwnField
 pub mod Forwarding
 pub mod Stateless
+pub mod EmptyLine
+pub mod AddedField

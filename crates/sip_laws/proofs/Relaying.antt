@@ -145,8 +145,3 @@ body_there t =
   where
     regroup : (p f c r : List ℕ) → p ++ (f ++ (c ++ r)) ≡ (p ++ (f ++ c)) ++ r
     regroup p f c r = simp append_assoc
-
--- where a message ends in its body
-pub ends_same : (size : Option ℕ) (b c : List ℕ) (body end there left : ℕ) → end ≡ end_behind b body size → body ≤ end → left ≡ end - body → length c ≡ there + left → end_behind c there size ≡ there + left
-ends_same None b c body end there left e le h k = k
-ends_same (Some n) b c body end there left e le h k = omega (arith, e, h)

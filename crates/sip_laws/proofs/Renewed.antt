@@ -33,6 +33,10 @@ same_count k ts us e = sym (filter_count k us) ∙ ap (λ (x : List FieldTree). 
 abbrev pub SameOthers : List FieldTree → List FieldTree → Type 0
 SameOthers ts us = (k : Kind) → is_same_kind k kind.Via ≡ false → is_same_kind k kind.MaxForwards ≡ false → all_named k us ≡ all_named k ts
 
+-- the same of all kinds that are read
+abbrev pub SameKnown : List FieldTree → List FieldTree → Type 0
+SameKnown ts us = (k : Kind) → is_same_kind k kind.Via ≡ false → is_same_kind k kind.MaxForwards ≡ false → is_same_kind k kind.Other ≡ false → all_named k us ≡ all_named k ts
+
 -- what is new
 pub record NewFields (us : List FieldTree) : Type 0 where
   pub via_field : FieldTree
@@ -44,7 +48,7 @@ pub record NewFields (us : List FieldTree) : Type 0 where
   pub few_hops : count_by (is_named kind.MaxForwards) us ≤ 1
   pub lists : AllByRecursion ListReads us
 
-abbrev pub renewed : (ts us : List FieldTree) (x : Fields ts) → SameOthers ts us → NewFields us → Fields us
+abbrev pub renewed : (ts us : List FieldTree) (x : Fields ts) → SameKnown ts us → NewFields us → Fields us
 renewed ts us x same n = record {
   via_field = n.via_field;
   via = n.via;
@@ -52,32 +56,32 @@ renewed ts us x same n = record {
   via_reads = n.via_reads;
   from_field = x.from_field;
   from = x.from;
-  from_first = same_find kind.From ts us (same kind.From refl refl) ∙ x.from_first;
+  from_first = same_find kind.From ts us (same kind.From refl refl refl) ∙ x.from_first;
   from_reads = x.from_reads;
   to_field = x.to_field;
   to = x.to;
-  to_first = same_find kind.To ts us (same kind.To refl refl) ∙ x.to_first;
+  to_first = same_find kind.To ts us (same kind.To refl refl refl) ∙ x.to_first;
   to_reads = x.to_reads;
   call_field = x.call_field;
   call = x.call;
-  call_first = same_find kind.CallId ts us (same kind.CallId refl refl) ∙ x.call_first;
+  call_first = same_find kind.CallId ts us (same kind.CallId refl refl refl) ∙ x.call_first;
   call_reads = x.call_reads;
   cseq_field = x.cseq_field;
   cseq = x.cseq;
-  cseq_first = same_find kind.CSeq ts us (same kind.CSeq refl refl) ∙ x.cseq_first;
+  cseq_first = same_find kind.CSeq ts us (same kind.CSeq refl refl refl) ∙ x.cseq_first;
   cseq_reads = x.cseq_reads;
   hops = n.hops;
   hops_read = n.hops_read;
   size = x.size;
-  size_read = ap (maybe (whole_number 10)) (same_find kind.ContentLength ts us (same kind.ContentLength refl refl)) ∙ x.size_read;
+  size_read = ap (maybe (whole_number 10)) (same_find kind.ContentLength ts us (same kind.ContentLength refl refl refl)) ∙ x.size_read;
   lists = n.lists;
   some_via = some_count kind.Via us n.via_field n.via_first;
-  one_from = same_count kind.From ts us (same kind.From refl refl) ∙ x.one_from;
-  one_to = same_count kind.To ts us (same kind.To refl refl) ∙ x.one_to;
-  one_call = same_count kind.CallId ts us (same kind.CallId refl refl) ∙ x.one_call;
-  one_cseq = same_count kind.CSeq ts us (same kind.CSeq refl refl) ∙ x.one_cseq;
+  one_from = same_count kind.From ts us (same kind.From refl refl refl) ∙ x.one_from;
+  one_to = same_count kind.To ts us (same kind.To refl refl refl) ∙ x.one_to;
+  one_call = same_count kind.CallId ts us (same kind.CallId refl refl refl) ∙ x.one_call;
+  one_cseq = same_count kind.CSeq ts us (same kind.CSeq refl refl refl) ∙ x.one_cseq;
   few_hops = n.few_hops;
-  few_sizes = let e = same_count kind.ContentLength ts us (same kind.ContentLength refl refl) in omega (arith, e, x.few_sizes);
+  few_sizes = let e = same_count kind.ContentLength ts us (same kind.ContentLength refl refl refl) in omega (arith, e, x.few_sizes);
 }
 
 -- Max-Forwards as it was

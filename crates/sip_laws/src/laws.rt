@@ -1,13 +1,14 @@
 //! Laws of what the proxy sends (RFC 3261, sections 8.2.6, 9.1, 16.6, 16.7 and 17.1.1.3). Each function states a law over
 //! every message that reads, and does nothing when it is called.
 ghost use Rattle.std.specs.Prelude.{◌≡◌, ◌≤◌, ◌<◌, ◌^◌, List, Some, [], codes, length, nat_eq, true, ℕ};
-ghost use Rattle.std.specs.List.{starts_with};
+ghost use Rattle.std.specs.List.{Contains, starts_with};
 ghost use Rattle.sip_words.specs.declared.bytes.Class.TheVariants.{Visible};
 ghost use Rattle.sip_words.specs.Grammar.{IsWord};
 ghost use Rattle.outside_ports.specs.declared.port.Addr.{Addr as Address};
 ghost use Rattle.sip_scan.specs.Grammar.{IsLine};
 ghost use Rattle.sip_build.specs.Reply.{reply_text};
 ghost use Rattle.sip_fields.specs.declared.via.Via.{Via as ViaValue};
+ghost use Rattle.sip_scan.specs.declared.field.HeaderSpan.{HeaderSpan as Field};
 ghost use Rattle.sip_scan.specs.declared.field.Kind.TheVariants as kind;
 ghost use Rattle.sip_msg.specs.Fields.{count};
 ghost use Rattle.sip_msg.specs.Table.{Reads};
@@ -17,7 +18,9 @@ ghost use Rattle.sip_build.specs.Relayed.{relayed_text};
 ghost use Rattle.sip_build.specs.Forwarded.{forwarded_text};
 ghost use Rattle.sip_build.specs.Stateless.{stateless_branch, stateless_ack_text};
 ghost use Rattle.sip_build.specs.Laws.{IsOwn};
-ghost use Rattle.sip_laws.specs.Sent.{IsForwarded, IsOnItsWay, IsRelayed, IsReply, IsRequest, IsResponse, most_fields, second_via, the_field};
+ghost use Rattle.sip_build.specs.Parts.{part};
+ghost use Rattle.sip_build.specs.WithField.{with_field};
+ghost use Rattle.sip_laws.specs.Sent.{HasField, IsForwarded, IsOnItsWay, IsRelayed, IsReply, IsRequest, IsResponse, most_fields, second_via, the_field};
 
 /// The ACK for a response to a request that was sent reads, where the request has at most 121 Route fields and the ACK at
 /// most 8,192 bytes: as an ACK on the way of that request, with To of the response.
@@ -75,4 +78,14 @@ pub fn a_stateless_ack_reads()
         → absent < 256 → length m.head.fields.items ≤ most_fields m.max_forwards
         → length (stateless_ack_text b m source [] uri listen absent) ≤ 8192
         → (w : Incoming) × IsForwarded b m source uri listen (stateless_branch b m.via.branch) absent (stateless_ack_text b m source [] uri listen absent) w }
+{}
+
+/// A response reads also with a field more before its empty line, as a challenge that the proxy adds (RFC 3261, section
+/// 16.7, item 7), where it has at most 127 fields, the text then at most 8,192 bytes, and the field is one of a message that
+/// reads, of a name that is read nowhere: with this field behind its others, and all else as it was.
+pub fn a_response_with_a_field_more_reads()
+    ensures { (b : List ℕ) (m : Incoming) (other : List ℕ) (om : Incoming) (f : Field) → Reads b m → IsResponse m.start → Reads other om
+        → Contains om.head.fields.items f → f.kind ≡ kind.Other → length m.head.fields.items ≤ 127
+        → length (with_field b (part other f.whole)) ≤ 8192
+        → (w : Incoming) × HasField b m (part other f.whole) (with_field b (part other f.whole)) w }
 {}
