@@ -1,7 +1,7 @@
 -- A response with a field more before its empty line reads.
-use Rattle.std.proofs.Common.{◌≡◌, ℕ, zero, suc, ◌+◌, ◌-◌, ◌<◌, ◌≤◌, Bool, true, false, List, [], ◌∷◌, ◌++◌, length, take, drop, refl, sym, ap, ◌∙◌, subst, arith, append_assoc, length-append, Option, Some, None}
+use Rattle.std.proofs.Common.{◌≡◌, ℕ, zero, suc, ◌+◌, ◌<◌, ◌≤◌, true, false, List, [], ◌∷◌, ◌++◌, length, take, drop, refl, sym, ap, ◌∙◌, subst, arith, append_assoc, length-append, Option, Some}
 use Rattle.std.specs.Prelude.{slice_index_or}
-use Rattle.std.specs.List.{Contains, find, AllByRecursion}
+use Rattle.std.specs.List.{Contains, AllByRecursion}
 use Rattle.std.proofs.lemmas.List.{append-nil, take_at, drop_at}
 use Rattle.std.proofs.lemmas.List.Elements.{filter-append}
 use Rattle.sip_words.specs.Spans.{span}
@@ -9,8 +9,8 @@ use Rattle.sip_scan.specs.declared.Head.{Head}
 use Rattle.sip_scan.specs.declared.field.HeaderSpan.{HeaderSpan}
 use Rattle.sip_scan.specs.declared.field.Kind.{Kind}
 use Rattle.sip_scan.specs.declared.field.Kind.TheVariants as kind
-use Rattle.sip_scan.specs.Field.{is_same_kind, kind_of}
-use Rattle.sip_scan.specs.Grammar.{crlf, FieldTree, field, IsFieldTree, fields, MessageTree, message, IsMessageTree}
+use Rattle.sip_scan.specs.Field.{is_same_kind}
+use Rattle.sip_scan.specs.Grammar.{FieldTree, field, IsFieldTree, fields, MessageTree, message, IsMessageTree}
 use Rattle.sip_scan.proofs.HeadAgain.{start_place}
 use Rattle.sip_msg.specs.declared.message.Message.{Message}
 use Rattle.sip_msg.specs.Start.{start_at}
@@ -18,13 +18,13 @@ use Rattle.sip_msg.specs.Table.{Reads}
 use Rattle.sip_build.specs.Parts.{part}
 use Rattle.sip_build.specs.WithField.{empty_line, put_at, with_field}
 use Rattle.sip_build.proofs.ReadsUnder.{places_length}
-use Rattle.sip_build.proofs.Spelt.{Spelt, spelt, fields_from, before_fields, behind_fields, front_length, in_fields, fields_append}
+use Rattle.sip_build.proofs.Spelt.{spelt, fields_from, before_fields, behind_fields, front_length, in_fields, fields_append}
 use Rattle.sip_build.proofs.Under.{in_front}
-use Rattle.sip_laws.specs.Sent.{IsResponse, all_fields, HasField}
+use Rattle.sip_laws.specs.Sent.{IsResponse, HasField}
 use Rattle.sip_laws.proofs.Trees.{is_named, all_named, Stands, AllStand, texts_stand, Fields, ListReads}
 use Rattle.sip_laws.proofs.Tags.{all_append}
 use Rattle.sip_laws.proofs.Hops.{no_list, via_then}
-use Rattle.sip_laws.proofs.Known.{KnownBy, known_by, Known, known}
+use Rattle.sip_laws.proofs.Known.{known_by, known}
 use Rattle.sip_laws.proofs.Relaying.{other_kind, front_is, start_of_tree, status_fits}
 use Rattle.sip_laws.proofs.Renewed.{NewFields, renewed, same_find, hops_stay}
 use Rattle.sip_laws.proofs.Again.{whole_body, again_with}

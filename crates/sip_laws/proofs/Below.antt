@@ -1,5 +1,5 @@
 -- A response that goes back without its top Via value reads.
-use Rattle.std.proofs.Common.{◌≡◌, ℕ, suc, ◌+◌, ◌-◌, ◌≤◌, Bool, true, false, List, [], ◌∷◌, ◌++◌, length, take, drop, refl, sym, ap, ◌∙◌, subst, arith, append_assoc, length-append, length-take, Option, Some, None}
+use Rattle.std.proofs.Common.{◌≡◌, ℕ, ◌+◌, ◌-◌, ◌≤◌, true, false, List, [], ◌∷◌, ◌++◌, length, take, drop, refl, sym, ap, ◌∙◌, subst, arith, append_assoc, length-append, length-take, Option, Some, None}
 use Rattle.std.specs.Prelude.{slice_range}
 use Rattle.std.specs.List.{find, filter, flat_map, AllByRecursion}
 use Rattle.std.proofs.lemmas.Option.{same_Some}
@@ -26,18 +26,18 @@ use Rattle.sip_build.specs.Parts.{part}
 use Rattle.sip_build.specs.Relayed.{relayed_text}
 use Rattle.sip_build.proofs.Away.{left_is}
 use Rattle.sip_build.proofs.LineLaw.{first_value_away}
-use Rattle.sip_build.proofs.Spelt.{Spelt, spelt, fields_from, before_fields, behind_fields, front_length, in_fields, fields_append}
-use Rattle.sip_build.proofs.Twins.{value_text, places_append}
+use Rattle.sip_build.proofs.Spelt.{Spelt, spelt, fields_from, before_fields, behind_fields, in_fields, fields_append}
+use Rattle.sip_build.proofs.Twins.{value_text}
 use Rattle.sip_laws.specs.Sent.{SameVia, IsResponse, all_fields, behind_first, second_via, value_behind, value_below, field_left, vias_below, IsRelayed}
-use Rattle.sip_laws.proofs.Trees.{is_named, all_named, AllStand, all_stand, texts_stand, Fields, ListReads}
-use Rattle.sip_laws.proofs.Tags.{AllOf, named_past, named_all, all_append}
+use Rattle.sip_laws.proofs.Trees.{is_named, all_named, texts_stand, ListReads}
+use Rattle.sip_laws.proofs.Tags.{AllOf, named_past, named_all}
 use Rattle.sip_laws.proofs.Hops.{via_sym, via_then}
-use Rattle.sip_laws.proofs.Reading.{Made, via_in, via_there}
+use Rattle.sip_laws.proofs.Reading.{via_in, via_there}
 use Rattle.sip_laws.proofs.Known.{KnownBy, known_by}
-use Rattle.sip_laws.proofs.Relaying.{all_behind, find_behind, named_behind, named_here, none_named, behind_is, found_is, other_kind, front_is, start_of_tree, status_fits, not_long, sizes}
+use Rattle.sip_laws.proofs.Relaying.{all_behind, find_behind, named_behind, other_kind, front_is, start_of_tree, status_fits, not_long, sizes}
 use Rattle.sip_laws.proofs.Around.{front_text, via_field_place, Around, five, around, named_swap, all_swap}
 use Rattle.sip_laws.proofs.Renewed.{SameKnown, NewFields, renewed, hops_stay}
-use Rattle.sip_laws.proofs.Again.{tree_again, kept_body, again}
+use Rattle.sip_laws.proofs.Again.{tree_again, again}
 use Rattle.sip_laws.proofs.NextValue.{less_via}
 
 -- what stands in the place of the first Via field: none, or one whose text is what is left of it

@@ -1,18 +1,16 @@
 -- Where the empty line of a message's text stands.
-use Rattle.std.proofs.Common.{◌≡◌, ℕ, zero, suc, ◌+◌, ◌-◌, ◌<◌, ◌≤◌, ◌==◌, Bool, true, false, List, [], ◌∷◌, ◌++◌, length, take, drop, refl, sym, ap, ◌∙◌, subst, arith, append_assoc, length-append, length-drop, Some, None, option_map, inl, inr}
+use Rattle.std.proofs.Common.{◌≡◌, ℕ, ◌+◌, ◌<◌, ◌==◌, true, false, List, [], ◌∷◌, ◌++◌, length, drop, refl, sym, ap, ◌∙◌, subst, arith, append_assoc, length-append, length-drop, Some, option_map, inl, inr}
 use Rattle.std.specs.List.{flat_map, AllByRecursion}
 use Rattle.std.proofs.lemmas.Bool.{cases_eq, ne_eqb, false≢true}
-use Rattle.std.proofs.lemmas.Option.{same_Some, cond_some}
-use Rattle.std.proofs.lemmas.List.{take_at, drop_at}
+use Rattle.std.proofs.lemmas.Option.{cond_some}
+use Rattle.std.proofs.lemmas.List.{drop_at}
 use Rattle.std.proofs.lemmas.List.Concat.{flat_map-append}
-use Rattle.sip_words.specs.Bytes.{◌and◌, is_wsp}
+use Rattle.sip_words.specs.Bytes.{is_wsp}
 use Rattle.sip_words.specs.declared.Span.{Span}
-use Rattle.sip_words.specs.Words.{stands}
-use Rattle.sip_words.specs.Grammar.{IsWord}
 use Rattle.sip_words.proofs.Steps.{bind_some}
 use Rattle.sip_words.proofs.Pieces.{behind, stands_at, stands_no}
-use Rattle.sip_scan.specs.Lines.{is_break, is_plain, is_crlf, skipped, first_crlf, speaks_sip, start_line}
-use Rattle.sip_scan.specs.Grammar.{crlf, IsLine, FieldTree, field, IsFieldTree, fields, MessageTree, message, IsMessageTree}
+use Rattle.sip_scan.specs.Lines.{is_plain, is_crlf, skipped, first_crlf, speaks_sip, start_line}
+use Rattle.sip_scan.specs.Grammar.{crlf, IsLine, FieldTree, IsFieldTree, fields, MessageTree, message, IsMessageTree}
 use Rattle.sip_scan.proofs.HeadAgain.{start_place, start_again}
 use Rattle.sip_msg.specs.Basis.{first_from}
 use Rattle.sip_msg.proofs.Places.{here, goes}

@@ -1,5 +1,5 @@
 -- The text of a forwarded request as a start line, fields and a body.
-use Rattle.std.proofs.Common.{◌≡◌, ℕ, ◌+◌, ◌-◌, ◌<◌, ◌≤◌, List, [], ◌∷◌, ◌++◌, length, take, drop, refl, sym, ap, ◌∙◌, arith, append_assoc, length-append, length-take, Some}
+use Rattle.std.proofs.Common.{◌≡◌, ℕ, ◌+◌, ◌-◌, ◌≤◌, List, [], ◌∷◌, ◌++◌, length, take, drop, refl, sym, ap, ◌∙◌, arith, append_assoc, length-append}
 use Rattle.std.specs.Prelude.{Option}
 use Rattle.std.proofs.lemmas.Bool.{ne_eqb}
 use Rattle.std.proofs.lemmas.List.{append-nil, take_at, drop_at}
@@ -19,16 +19,15 @@ use Rattle.outside_ports.specs.declared.port.Addr.{Addr}
 use Rattle.sip_build.specs.Parts.{uri_of, place_of}
 use Rattle.sip_build.specs.Stamp.{stamp}
 use Rattle.sip_build.specs.Forwarded.{replaced, via_line, forwarded_text}
-use Rattle.sip_build.specs.Laws.{other_edits, before_place, from_place}
+use Rattle.sip_build.specs.Laws.{before_place, from_place}
 use Rattle.sip_build.proofs.LineLaw.{line_is_put_in}
 use Rattle.sip_build.proofs.NewVia.{new_field, new_field_is}
 use Rattle.sip_build.proofs.Spelt.{Spelt, fields_from, before_fields, front_length, fields_append}
-use Rattle.sip_laws.proofs.Known.{KnownBy}
 use Rattle.sip_laws.proofs.StampedField.{stamps}
 use Rattle.sip_laws.proofs.StampedVia.{StampedVia}
 use Rattle.sip_laws.proofs.Around.{front_text, Around}
 use Rattle.sip_laws.proofs.StampedVias.{quiet_cut, quiet_put}
-use Rattle.sip_laws.proofs.Again.{tree_again, kept_body}
+use Rattle.sip_laws.proofs.Again.{tree_again}
 use Rattle.sip_laws.proofs.StartWith.{request_with}
 use Rattle.sip_laws.proofs.StartParts.{StartParts, start_replaced, uri_place}
 use Rattle.sip_laws.proofs.Groups.{QuietAt, groups, only_first, only_second, only_third, same_piece, quiet_above}

@@ -1,12 +1,12 @@
 -- A request that is forwarded without edits of a script reads.
-use Rattle.std.proofs.Common.{◌≡◌, ℕ, suc, ◌+◌, ◌-◌, ◌<◌, ◌≤◌, ◌^◌, Bool, true, false, List, [], ◌∷◌, ◌++◌, length, take, drop, refl, sym, ap, ◌∙◌, subst, arith, append_assoc, length-append, Option, Some, None}
-use Rattle.std.specs.Prelude.{codes, nat_eq, slice_range}
-use Rattle.std.specs.List.{find, count_by, starts_with, AllByRecursion}
+use Rattle.std.proofs.Common.{◌≡◌, ℕ, ◌+◌, ◌-◌, ◌<◌, ◌≤◌, ◌^◌, Bool, true, false, List, [], ◌∷◌, ◌++◌, length, take, drop, refl, sym, ap, ◌∙◌, subst, arith, length-append, Some, None}
+use Rattle.std.specs.Prelude.{codes, nat_eq}
+use Rattle.std.specs.List.{find, starts_with, AllByRecursion}
 use Rattle.std.specs.Cmp.Lexicographic.{same_text}
 use Rattle.std.proofs.lemmas.Option.{same_Some}
 use Rattle.std.proofs.lemmas.List.{append-nil, drop_at}
 use Rattle.std.proofs.lemmas.List.Elements.{filter-append}
-use Rattle.sip_words.specs.declared.bytes.Class.TheVariants.{Token, Visible}
+use Rattle.sip_words.specs.declared.bytes.Class.TheVariants.{Visible}
 use Rattle.sip_words.specs.Bytes.{◌and◌}
 use Rattle.sip_words.specs.Spans.{span}
 use Rattle.sip_words.specs.Grammar.{IsWord}
@@ -15,7 +15,7 @@ use Rattle.sip_fields.specs.declared.cseq.CSeq.{CSeq}
 use Rattle.sip_scan.specs.declared.field.Kind.{Kind}
 use Rattle.sip_scan.specs.declared.field.Kind.TheVariants as kind
 use Rattle.sip_scan.specs.Field.{is_same_kind, kind_of}
-use Rattle.sip_scan.specs.Grammar.{crlf, IsLine, FieldTree, field, IsFieldTree, fields, MessageTree, message, IsMessageTree}
+use Rattle.sip_scan.specs.Grammar.{crlf, IsLine, FieldTree, IsFieldTree, fields, MessageTree, message, IsMessageTree}
 use Rattle.sip_scan.proofs.HeadAgain.{start_place}
 use Rattle.sip_msg.specs.declared.message.Message.{Message}
 use Rattle.sip_msg.specs.declared.start.Start.{Start}
@@ -24,10 +24,9 @@ use Rattle.sip_msg.specs.Start.{start_at}
 use Rattle.sip_msg.specs.Values.{fits, has_cookie}
 use Rattle.sip_msg.specs.Table.{Reads}
 use Rattle.outside_ports.specs.declared.port.Addr.{Addr}
-use Rattle.sip_build.specs.Parts.{part, edited_vias}
-use Rattle.sip_build.specs.Stamp.{stamp}
+use Rattle.sip_build.specs.Parts.{part}
 use Rattle.sip_build.specs.Forwarded.{via_line, forwarded_text}
-use Rattle.sip_build.specs.Laws.{IsOwn, own_value, own_via}
+use Rattle.sip_build.specs.Laws.{IsOwn, own_via}
 use Rattle.sip_build.proofs.NewVia.{new_field, new_field_is}
 use Rattle.sip_build.proofs.Spelt.{Spelt, spelt}
 use Rattle.sip_build.proofs.Twins.{value_text}

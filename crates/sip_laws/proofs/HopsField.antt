@@ -1,5 +1,5 @@
 -- Max-Forwards with another number: a field that reads.
-use Rattle.std.proofs.Common.{◌≡◌, ℕ, ◌+◌, ◌<◌, ◌≤◌, ◌^◌, ◌==◌, true, List, [], ◌∷◌, ◌++◌, length, take, drop, refl, sym, ap, ◌∙◌, subst, arith, append_assoc, length-append, Some}
+use Rattle.std.proofs.Common.{◌≡◌, ℕ, ◌+◌, ◌<◌, ◌≤◌, ◌==◌, true, List, [], ◌∷◌, ◌++◌, length, take, drop, refl, sym, ap, ◌∙◌, subst, arith, append_assoc, length-append, Some}
 use Rattle.std.specs.Prelude.{nat_lt, codes}
 use Rattle.std.specs.Fmt.{decimal}
 use Rattle.std.specs.Str.Parse.{digits_value}
@@ -7,11 +7,11 @@ use Rattle.std.proofs.lemmas.Bool.{eq-eqb, eqb-true, lt-ltb, ltb-true}
 use Rattle.std.proofs.lemmas.Fmt.{decimal_is_IsNumeral, length-decimal-le, decimal_nonempty}
 use Rattle.std.proofs.lemmas.List.{append-nil, drop_all}
 use Rattle.std.proofs.lemmas.Option.{cond_some}
-use Rattle.sip_words.specs.declared.bytes.Class.TheVariants.{Token, Digit}
+use Rattle.sip_words.specs.declared.bytes.Class.TheVariants.{Digit}
 use Rattle.sip_words.specs.declared.separators.Surroundings.TheVariants.{Field}
 use Rattle.sip_words.specs.Bytes.{has}
 use Rattle.sip_words.specs.Spans.{span}
-use Rattle.sip_words.specs.Words.{run_end, lws_end}
+use Rattle.sip_words.specs.Words.{lws_end}
 use Rattle.sip_words.specs.Numbers.{number_at}
 use Rattle.sip_words.specs.Grammar.{Blank, Space, lws, IsWord}
 use Rattle.sip_words.proofs.Steps.{bind_some}

@@ -1,17 +1,14 @@
 -- The fields of a message that is forwarded: its Max-Forwards is one less, or a field is added behind all others.
-use Rattle.std.proofs.Common.{◌≡◌, ℕ, suc, ◌+◌, ◌-◌, ◌<◌, ◌≤◌, Bool, true, false, List, [], ◌∷◌, ◌++◌, length, take, refl, sym, ap, ◌∙◌, subst, arith, append_assoc, length-append, Option, Some, None, option_map, inl, inr}
+use Rattle.std.proofs.Common.{◌≡◌, ℕ, suc, ◌+◌, ◌<◌, ◌≤◌, true, false, List, [], ◌∷◌, ◌++◌, length, take, refl, sym, ap, ◌∙◌, subst, arith, append_assoc, length-append, Some}
 use Rattle.std.specs.List.{find, AllByRecursion}
 use Rattle.std.specs.Fmt.{decimal}
-use Rattle.std.proofs.lemmas.Option.{same_Some, none-some}
-use Rattle.std.proofs.lemmas.List.Folds.{find-append}
-use Rattle.std.proofs.lemmas.List.Elements.{filter-append}
 use Rattle.sip_words.specs.declared.Span.{Span}
 use Rattle.sip_scan.specs.declared.field.HeaderSpan.{HeaderSpan}
 use Rattle.sip_scan.specs.declared.field.Kind.{Kind}
 use Rattle.sip_scan.specs.declared.field.Kind.TheVariants as kind
 use Rattle.sip_scan.specs.Field.{is_same_kind, kind_of}
 use Rattle.sip_scan.specs.Grammar.{FieldTree, field, IsFieldTree, field_place, fields, field_places}
-use Rattle.sip_msg.specs.Fields.{is_of, first}
+use Rattle.sip_msg.specs.Fields.{is_of}
 use Rattle.sip_msg.specs.Values.{hops_at}
 use Rattle.msg_edits.specs.declared.parts.Edit.{Edit}
 use Rattle.msg_edits.specs.Edited.{edited_from}

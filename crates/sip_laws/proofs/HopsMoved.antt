@@ -1,6 +1,6 @@
 -- What becomes of Max-Forwards in a request that is forwarded, wherever it stands.
-use Rattle.std.proofs.Common.{◌≡◌, ◌≢◌, ℕ, suc, ◌+◌, ◌-◌, ◌<◌, ◌≤◌, ◌==◌, Bool, true, false, List, [], ◌∷◌, ◌++◌, length, take, refl, sym, ap, ◌∙◌, subst, arith, append_assoc, length-append, Option, Some, None, option_map, inl, inr}
-use Rattle.std.specs.Prelude.{codes, if◌then◌else◌}
+use Rattle.std.proofs.Common.{◌≡◌, ◌≢◌, ℕ, ◌+◌, ◌-◌, ◌<◌, ◌≤◌, false, List, [], ◌∷◌, ◌++◌, length, take, refl, sym, ap, ◌∙◌, subst, arith, append_assoc, length-append, Option, Some, None, option_map}
+use Rattle.std.specs.Prelude.{codes}
 use Rattle.std.specs.Option.{option_or}
 use Rattle.std.specs.List.{find, AllByRecursion}
 use Rattle.std.specs.Fmt.{decimal}
@@ -14,14 +14,13 @@ use Rattle.sip_scan.specs.declared.field.HeaderSpan.{HeaderSpan}
 use Rattle.sip_scan.specs.declared.field.Kind.{Kind}
 use Rattle.sip_scan.specs.declared.field.Kind.TheVariants as kind
 use Rattle.sip_scan.specs.Field.{is_same_kind}
-use Rattle.sip_scan.specs.Grammar.{crlf, FieldTree, field, IsFieldTree, field_place, fields, field_places, MessageTree}
+use Rattle.sip_scan.specs.Grammar.{crlf, FieldTree, field, IsFieldTree, fields, field_places}
 use Rattle.sip_msg.specs.declared.message.Message.{Message}
 use Rattle.sip_msg.specs.Fields.{is_of, first}
 use Rattle.sip_msg.specs.Values.{hops_at}
-use Rattle.sip_msg.specs.Table.{Reads}
 use Rattle.msg_edits.specs.declared.parts.Edit.{Edit}
 use Rattle.msg_edits.specs.declared.parts.Edit.TheVariants.{Insert}
-use Rattle.msg_edits.specs.Edited.{is_cut, inserted_at, edited_from}
+use Rattle.msg_edits.specs.Edited.{inserted_at, edited_from}
 use Rattle.sip_build.specs.Forwarded.{replaced, number_in, one_less, with_hops}
 use Rattle.sip_build.proofs.Spelt.{Spelt, fields_from, before_fields, behind_fields, front_length}
 use Rattle.sip_build.proofs.Twins.{value_text}
@@ -32,7 +31,7 @@ use Rattle.sip_laws.proofs.Known.{KnownBy}
 use Rattle.sip_laws.proofs.Relaying.{all_behind, find_behind, named_behind, named_here, none_named, other_kind}
 use Rattle.sip_laws.proofs.Around.{front_text, via_field_place, Around}
 use Rattle.sip_laws.proofs.HopsField.{added_hops, is_added, added_reads}
-use Rattle.sip_laws.proofs.HopsList.{HoppedList, Hopped, hopped, unhopped}
+use Rattle.sip_laws.proofs.HopsList.{HoppedList, hopped, unhopped}
 use Rattle.sip_laws.proofs.StampedField.{from_first}
 use Rattle.sip_laws.proofs.Groups.{QuietAt, quiet_piece}
 

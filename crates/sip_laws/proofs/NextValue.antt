@@ -1,5 +1,5 @@
 -- A Via field without its first value, where another stands behind it.
-use Rattle.std.proofs.Common.{◌≡◌, ℕ, suc, ◌+◌, ◌-◌, ◌≤◌, true, List, [], ◌∷◌, ◌++◌, length, take, drop, refl, sym, ap, ◌∙◌, subst, arith, append_assoc, length-append, length-drop, Some, None}
+use Rattle.std.proofs.Common.{◌≡◌, ℕ, suc, ◌+◌, ◌≤◌, true, List, [], ◌∷◌, ◌++◌, length, take, drop, refl, sym, ap, ◌∙◌, subst, arith, append_assoc, length-append, Some}
 use Rattle.std.specs.Prelude.{slice_range}
 use Rattle.std.proofs.lemmas.Option.{same_Some, none-some}
 use Rattle.std.proofs.lemmas.List.{drop_at}
@@ -21,7 +21,7 @@ use Rattle.sip_build.proofs.Twins.{value_text, field_value}
 use Rattle.sip_laws.specs.Sent.{SameVia}
 use Rattle.sip_laws.proofs.Folded.{Folded, folded_both, folded_lws, cut_folded, value_folded, field_with, is_field_with, value_with, text_with, name_with}
 use Rattle.sip_laws.proofs.Endings.{ends_lws, ends_mark}
-use Rattle.sip_laws.proofs.Shift.{core, Spelled, spelled, says, both_say}
+use Rattle.sip_laws.proofs.Shift.{core, spelled, says, both_say}
 use Rattle.sip_laws.proofs.Trees.{is_named, ListReads, enough}
 use Rattle.sip_laws.proofs.Hops.{via_kind}
 use Rattle.sip_laws.proofs.Reading.{via_front}

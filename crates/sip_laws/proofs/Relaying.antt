@@ -1,45 +1,31 @@
 -- Fields among others, and the parts of a message's text.
-use Rattle.std.proofs.Common.{◌≡◌, ℕ, suc, ◌+◌, ◌-◌, ◌≤◌, Bool, true, false, List, [], ◌∷◌, ◌++◌, length, take, drop, refl, sym, ap, ◌∙◌, subst, arith, append_assoc, length-append, length-take, Option, Some, None, inl, inr}
-use Rattle.std.specs.Prelude.{IfSome, cond, slice_range}
+use Rattle.std.proofs.Common.{◌≡◌, ℕ, ◌+◌, ◌-◌, ◌≤◌, Bool, true, false, List, [], ◌∷◌, ◌++◌, length, take, drop, refl, sym, ap, ◌∙◌, subst, arith, append_assoc, length-append, length-take, Option, Some, None, inl, inr}
+use Rattle.std.specs.Prelude.{IfSome, cond}
 use Rattle.std.specs.List.{find, count_by, AllByRecursion}
 use Rattle.std.proofs.lemmas.Bool.{cases_Bool}
 use Rattle.std.proofs.lemmas.Bool.{cases_lt}
 use Rattle.std.proofs.lemmas.Option.{same_Some, none-some}
-use Rattle.std.proofs.lemmas.List.{take_at, drop_at, take-take}
+use Rattle.std.proofs.lemmas.List.{take_at, drop_at}
 use Rattle.sip_words.specs.declared.Span.{Span}
-use Rattle.sip_words.specs.Spans.{span}
 use Rattle.sip_words.proofs.Steps.{bind_some}
-use Rattle.sip_fields.specs.declared.via.Via.{Via}
-use Rattle.sip_scan.specs.declared.Head.{Head}
 use Rattle.sip_scan.specs.declared.field.HeaderSpan.{HeaderSpan}
 use Rattle.sip_scan.specs.declared.field.Kind.{Kind}
-use Rattle.sip_scan.specs.declared.field.Kind.TheVariants as kind
 use Rattle.sip_scan.specs.Lines.{start_line}
 use Rattle.sip_scan.specs.Field.{is_same_kind}
-use Rattle.sip_scan.specs.Grammar.{crlf, FieldTree, field, IsFieldTree, field_place, fields, field_places, MessageTree, message, IsMessageTree, head_place}
+use Rattle.sip_scan.specs.Grammar.{crlf, FieldTree, field, field_place, fields, field_places, MessageTree, message, IsMessageTree, head_place}
 use Rattle.sip_scan.proofs.HeadAgain.{start_place, start_again}
-use Rattle.sip_msg.specs.declared.message.Message.{Message}
 use Rattle.sip_msg.specs.declared.start.Start.{Start}
 use Rattle.sip_msg.specs.declared.start.Start.TheVariants.{Request, Status}
 use Rattle.sip_msg.specs.Fields.{is_of}
 use Rattle.sip_msg.specs.Start.{start_at, start_of}
-use Rattle.sip_msg.specs.Values.{via_of}
 use Rattle.sip_msg.specs.declared.message.MsgFault.TheVariants.{TooLong}
-use Rattle.sip_msg.specs.Table.{fault_of, end_behind, Reads}
+use Rattle.sip_msg.specs.Table.{fault_of, end_behind}
 use Rattle.sip_msg.proofs.Rows.{too_long}
-use Rattle.sip_build.proofs.Under.{in_front}
-use Rattle.sip_msg.proofs.Lies.{few, lies}
-use Rattle.sip_build.specs.Parts.{part}
-use Rattle.sip_build.specs.Relayed.{relayed_text}
-use Rattle.sip_build.proofs.Away.{left_is, without_field, all_but}
-use Rattle.sip_build.proofs.ReadsUnder.{places_length}
-use Rattle.sip_build.proofs.Spelt.{spelt, fields_from, before_fields, behind_fields, front_length, in_fields, fields_append}
-use Rattle.sip_build.proofs.Twins.{value_text, places_append}
-use Rattle.sip_laws.specs.Sent.{SameVia, IsResponse, the_field, all_fields, behind_first, second_via, IsRelayed}
-use Rattle.sip_laws.proofs.Trees.{is_named, all_named, all_stand, text_stands, texts_stand, maybe, Fields, ListReads, count_trees}
-use Rattle.sip_laws.proofs.Reading.{TreeFits, tree_reads, via_in, via_there}
-use Rattle.sip_laws.proofs.Known.{known_by}
-use Rattle.sip_laws.proofs.Hops.{via_sym, via_then}
+use Rattle.sip_msg.proofs.Lies.{few}
+use Rattle.sip_build.proofs.Spelt.{fields_from, before_fields, behind_fields, front_length, in_fields}
+use Rattle.sip_laws.specs.Sent.{IsResponse, behind_first}
+use Rattle.sip_laws.proofs.Trees.{is_named, all_named, Fields, count_trees}
+use Rattle.sip_laws.proofs.Reading.{TreeFits}
 
 -- a field of another kind changes nothing
 find_without : (k : Kind) (before after : List FieldTree) (t : FieldTree) → is_named k t ≡ false → find (is_named k) (before ++ after) ≡ find (is_named k) (before ++ (t ∷ after))

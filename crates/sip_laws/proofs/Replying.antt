@@ -1,12 +1,12 @@
 -- The proxy's response to a request reads.
 use Rattle.std.proofs.Common.{◌≡◌, ◌≢◌, ℕ, zero, suc, ◌+◌, ◌<◌, ◌≤◌, ◌^◌, Bool, true, false, List, [], ◌∷◌, ◌++◌, length, take, drop, refl, sym, ap, ◌∙◌, subst, arith, append_assoc, length-append, Option, Some, None, inl, inr, option_map}
 use Rattle.std.specs.Prelude.{IfSome, codes, is_none, if◌then◌else◌, nat_eq}
-use Rattle.std.specs.List.{find, count_by, filter, flat_map, list_all, starts_with, AllByRecursion}
+use Rattle.std.specs.List.{find, count_by, list_all, starts_with, AllByRecursion}
 use Rattle.std.specs.Fmt.{decimal}
-use Rattle.std.proofs.lemmas.Bool.{cases_Bool, ne_eqb}
+use Rattle.std.proofs.lemmas.Bool.{cases_Bool}
 use Rattle.std.proofs.lemmas.Fmt.{decimal_nonempty}
 use Rattle.std.proofs.lemmas.Option.{same_Some, none-some, cond_some}
-use Rattle.std.proofs.lemmas.List.{append-nil, take_at, drop_at}
+use Rattle.std.proofs.lemmas.List.{append-nil, take_at}
 use Rattle.sip_words.specs.Bytes.{has, ◌and◌}
 use Rattle.sip_words.specs.Spans.{span}
 use Rattle.sip_words.specs.declared.Span.{Span}
@@ -20,29 +20,25 @@ use Rattle.sip_fields.specs.Via.{via_at}
 use Rattle.sip_fields.specs.ViaGrammar.{HasToken}
 use Rattle.sip_fields.specs.NameAddr.{name_addr_at}
 use Rattle.sip_fields.specs.Parts.{tail}
-use Rattle.sip_scan.specs.declared.Head.{Head}
 use Rattle.sip_scan.specs.declared.field.HeaderSpan.{HeaderSpan}
 use Rattle.sip_scan.specs.declared.field.Kind.{Kind}
 use Rattle.sip_scan.specs.declared.field.Kind.TheVariants as kind
 use Rattle.sip_scan.specs.Field.{kind_of, is_same_kind}
-use Rattle.sip_scan.specs.Grammar.{crlf, IsLine, FieldTree, field, IsFieldTree, field_place, fields, field_places, MessageTree, message, IsMessageTree}
-use Rattle.msg_edits.specs.declared.parts.Edit.{Edit}
-use Rattle.msg_edits.specs.Edited.{is_cut, inserted_at, edited_from}
+use Rattle.sip_scan.specs.Grammar.{crlf, IsLine, FieldTree, field, IsFieldTree, field_place, fields, MessageTree, message, IsMessageTree}
 use Rattle.sip_msg.specs.declared.message.Message.{Message}
 use Rattle.sip_msg.specs.declared.start.Start.{Start}
 use Rattle.sip_msg.specs.declared.start.Start.TheVariants.{Status}
-use Rattle.sip_msg.specs.Fields.{is_of, first, count}
-use Rattle.sip_msg.specs.Values.{whole_number, hops_at, name_addr_of, via_of}
+use Rattle.sip_msg.specs.Fields.{first, count}
+use Rattle.sip_msg.specs.Values.{whole_number, hops_at, name_addr_of}
 use Rattle.sip_msg.specs.Table.{Reads}
 use Rattle.outside_ports.specs.declared.port.Addr.{Addr}
-use Rattle.numerals.specs.Numerals.{dotted}
-use Rattle.sip_build.specs.Parts.{part, field_text, edited_field, edited_vias}
+use Rattle.sip_build.specs.Parts.{part, field_text, edited_vias}
 use Rattle.sip_build.specs.Reply.{answer, reply_text, without_cookie, reply_tag, gives_tag, tagged, reply_to_field}
 use Rattle.sip_build.specs.Reply as reply
-use Rattle.sip_build.specs.Stamp.{stamp, wants_received}
+use Rattle.sip_build.specs.Stamp.{stamp}
 use Rattle.sip_build.proofs.OwnVia.{decimal_digits}
-use Rattle.sip_build.proofs.Twins.{value_text, places_append}
-use Rattle.sip_build.proofs.Spelt.{Spelt, spelt, fields_from, before_fields, behind_fields, front_length, in_fields, fields_append}
+use Rattle.sip_build.proofs.Twins.{value_text}
+use Rattle.sip_build.proofs.Spelt.{Spelt, spelt, fields_append}
 use Rattle.sip_laws.specs.Sent.{bytes_at, SameVia, IsStatusLine, NoBareTag, IsReply}
 use Rattle.sip_laws.proofs.Folded.{Folded, value_folded, field_with, is_field_with, value_with, text_with, name_with}
 use Rattle.sip_laws.proofs.Shift.{tree_value, spelled, tag_says}

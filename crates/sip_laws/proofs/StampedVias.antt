@@ -13,16 +13,13 @@ use Rattle.msg_edits.specs.declared.parts.Edit.{Edit}
 use Rattle.msg_edits.specs.Edited.{is_cut, inserted_at, edited_from}
 use Rattle.sip_msg.specs.declared.message.Message.{Message}
 use Rattle.sip_msg.specs.Fields.{is_of}
-use Rattle.sip_msg.specs.Table.{Reads}
 use Rattle.outside_ports.specs.declared.port.Addr.{Addr}
-use Rattle.numerals.specs.Numerals.{dotted}
 use Rattle.sip_build.specs.Parts.{part, edited_field, edited_vias}
-use Rattle.sip_build.specs.Stamp.{stamp, wants_received}
+use Rattle.sip_build.specs.Stamp.{stamp}
 use Rattle.sip_build.proofs.Spelt.{Spelt, fields_from, behind_fields}
 use Rattle.sip_laws.proofs.Trees.{is_named, all_named}
 use Rattle.sip_laws.proofs.Relaying.{named_here}
-use Rattle.sip_laws.proofs.StampedTree.{received_line}
-use Rattle.sip_laws.proofs.StampedField.{Stamps, stamps}
+use Rattle.sip_laws.proofs.StampedField.{stamps}
 use Rattle.sip_laws.proofs.After.{from_kept}
 use Rattle.sip_laws.proofs.StampedVia.{StampedVia, stamped_via}
 use Rattle.sip_laws.proofs.Around.{front_text, Around}

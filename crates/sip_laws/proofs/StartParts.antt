@@ -1,10 +1,10 @@
 -- The start line of a request in its parts, and with another URI in it.
-use Rattle.std.proofs.Common.{◌≡◌, ℕ, ◌+◌, ◌<◌, ◌≤◌, List, [], ◌∷◌, ◌++◌, length, take, drop, refl, sym, ap, ◌∙◌, subst, arith, append_assoc, length-append}
+use Rattle.std.proofs.Common.{◌≡◌, ℕ, ◌+◌, ◌<◌, ◌≤◌, List, [], ◌∷◌, ◌++◌, length, take, drop, refl, sym, ap, ◌∙◌, arith, append_assoc, length-append}
 use Rattle.std.proofs.lemmas.List.{drop_at}
 use Rattle.sip_words.specs.declared.bytes.Class.TheVariants.{Token, Visible}
 use Rattle.sip_words.specs.Spans.{span}
 use Rattle.sip_words.specs.Grammar.{IsWord}
-use Rattle.sip_scan.specs.Grammar.{crlf, IsLine, MessageTree, message, IsMessageTree}
+use Rattle.sip_scan.specs.Grammar.{crlf, MessageTree, message, IsMessageTree}
 use Rattle.sip_scan.proofs.HeadAgain.{start_place}
 use Rattle.sip_msg.specs.declared.message.Message.{Message}
 use Rattle.sip_msg.specs.declared.start.Start.{Start}

@@ -1,21 +1,19 @@
 -- A request line with another URI: it is a line of SIP, and it is read.
-use Rattle.std.proofs.Common.{◌≡◌, ℕ, ◌+◌, ◌-◌, ◌≤◌, ◌==◌, Bool, true, false, List, [], ◌∷◌, ◌++◌, length, drop, map, refl, sym, ap, ◌∙◌, subst, arith, append_assoc, length-append, length-drop, Some, inl, inr}
+use Rattle.std.proofs.Common.{◌≡◌, ℕ, ◌+◌, ◌-◌, ◌≤◌, ◌==◌, Bool, true, false, List, [], ◌∷◌, ◌++◌, length, drop, map, refl, sym, ap, ◌∙◌, arith, append_assoc, length-append, length-drop, Some, inl, inr}
 use Rattle.std.specs.Prelude.{codes, not, reverse}
-use Rattle.std.specs.List.{AllByRecursion, after_last, suffix_len, prefix_len}
+use Rattle.std.specs.List.{after_last, suffix_len, prefix_len}
 use Rattle.std.specs.Char.{to_ascii_lowercase}
-use Rattle.std.specs.Str.{str_eq_ignore_ascii_case}
 use Rattle.std.specs.Cmp.Lexicographic.{same_text}
 use Rattle.std.proofs.lemmas.List.{append-nil, drop_at, reverse-append}
 use Rattle.std.proofs.lemmas.Bool.{cases_Bool, eqb-true, eq-eqb}
 use Rattle.sip_words.specs.Bytes.{◌or◌, has}
-use Rattle.sip_words.specs.declared.Span.{Span}
 use Rattle.sip_words.specs.declared.bytes.Class.TheVariants.{Token, Visible}
 use Rattle.sip_words.specs.Spans.{span}
 use Rattle.sip_words.specs.Grammar.{IsWord}
-use Rattle.sip_words.proofs.Pieces.{behind, stands_at, word_again, word_at_again, part_is, same_length}
+use Rattle.sip_words.proofs.Pieces.{behind, stands_at, word_again, word_at_again, part_is}
 use Rattle.sip_scan.specs.Lines.{begins_sip, speaks_sip}
 use Rattle.sip_scan.specs.Grammar.{IsLine}
-use Rattle.sip_msg.specs.declared.start.Start.TheVariants.{Request, Status}
+use Rattle.sip_msg.specs.declared.start.Start.TheVariants.{Request}
 use Rattle.sip_msg.specs.Start.{behind_space, request_at, start_at}
 use Rattle.sip_msg.specs.StartGrammar.{IsVersion}
 use Rattle.sip_laws.proofs.StartAgain.{line_both, line_token, line_visible}

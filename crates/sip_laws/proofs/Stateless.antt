@@ -1,5 +1,5 @@
 -- The ACK that is forwarded without a transaction reads.
-use Rattle.std.proofs.Common.{◌≡◌, ℕ, ◌<◌, ◌≤◌, ◌^◌, true, List, [], ◌∷◌, ◌++◌, length, refl, sym, ◌∙◌, arith, Option, Some, None}
+use Rattle.std.proofs.Common.{◌≡◌, ℕ, ◌<◌, ◌≤◌, ◌^◌, true, List, [], length, refl, sym, ◌∙◌, arith, Option, Some, None}
 use Rattle.std.specs.Prelude.{codes, IfSome}
 use Rattle.std.specs.List.{AllByRecursion}
 use Rattle.sip_words.specs.Bytes.{has}
@@ -10,14 +10,12 @@ use Rattle.sip_fields.specs.ViaGrammar.{HasToken}
 use Rattle.sip_msg.specs.declared.message.Message.{Message}
 use Rattle.sip_msg.specs.Table.{Reads}
 use Rattle.outside_ports.specs.declared.port.Addr.{Addr}
-use Rattle.sip_build.specs.Laws.{IsOwn}
 use Rattle.sip_build.specs.Parts.{part}
-use Rattle.sip_build.specs.Reply.{without_cookie}
 use Rattle.sip_build.specs.Stateless.{token_of, stateless_branch, stateless_ack_text}
 use Rattle.sip_build.proofs.Twins.{value_text}
 use Rattle.sip_laws.specs.Sent.{bytes_at, IsRequest, most_fields, IsForwarded}
 use Rattle.sip_laws.proofs.Shift.{tree_value, spelled}
-use Rattle.sip_laws.proofs.Known.{Known, known}
+use Rattle.sip_laws.proofs.Known.{known}
 use Rattle.sip_laws.proofs.Replying.{all_tokens, without, token_of_tree}
 use Rattle.sip_laws.proofs.Forwarding.{forwarded_reads}
 
