@@ -109,7 +109,7 @@ method_of_fits : (b : List ℕ) (s : Start) (c : CSeq) (v : Via) → IsRequest s
 method_of_fits b (Status code reason) c v is h = absurd is
 method_of_fits b (Request method uri) c v is h = same_text (part b c.method) (part b method) (sym (and_first _ (has_cookie b v.branch) h))
 
-cseq_method_is : (b : List ℕ) (m : Message) → Reads b m → IsRequest m.start → part b m.cseq.method ≡ method_in b m.start
+pub cseq_method_is : (b : List ℕ) (m : Message) → Reads b m → IsRequest m.start → part b m.cseq.method ≡ method_in b m.start
 cseq_method_is b m r is =
     let v = values_stand b m r in
     let s = stand b m.start m.head.fields.items v.0 v.1 in
@@ -117,35 +117,33 @@ cseq_method_is b m r is =
     subst (λ (c : CSeq). part b c.method ≡ method_in b m.start) same (method_of_fits b m.start v.0.cseq v.0.via is s.fits)
 
 -- the start line with another URI, in the text
-record NewStart (b : List ℕ) (m : Message) (c uri : List ℕ) (t u : MessageTree) : Type 0 where
-  start : Start
-  begins : start_at (take (start_place u).to c) (start_place u).from ≡ Some start
-  line : IsRequestLine c start (method_in b m.start) uri
+abbrev pub placed_start : (t : MessageTree) (s : Start) → StartParts t s → List ℕ → Start
+placed_start t s p uri = let i = length t.skipped in Request (span i (i + length p.method)) (span (i + length p.method + 1) (i + length p.method + 1 + length uri))
 
-piece : (a c n rest : List ℕ) → a ++ (c ++ (n ++ rest)) ≡ a ++ (c ++ (n ++ rest))
-piece a c n rest = refl
+pub record NewStart (b : List ℕ) (m : Message) (c uri : List ℕ) (u : MessageTree) (start : Start) : Type 0 where
+  pub begins : start_at (take (start_place u).to c) (start_place u).from ≡ Some start
+  pub line : IsRequestLine c start (method_in b m.start) uri
 
-new_start : (b : List ℕ) (m : Message) (t : MessageTree) (p : StartParts t m.start) (uri c : List ℕ) (us : List FieldTree) (count : ℕ) → b ≡ message t → c ≡ message (tree_again t (request_with p.method uri p.version) us count) → IsWord Visible uri → NewStart b m c uri t (tree_again t (request_with p.method uri p.version) us count)
-new_start b m t p uri c us count old e word =
+pub new_start : (b : List ℕ) (m : Message) (t : MessageTree) (p : StartParts t m.start) (uri c : List ℕ) (us : List FieldTree) (rest : List ℕ) → b ≡ message t → c ≡ message (record { skipped = t.skipped; start = request_with p.method uri p.version; fields = us; body = rest }) → IsWord Visible uri → NewStart b m c uri (record { skipped = t.skipped; start = request_with p.method uri p.version; fields = us; body = rest }) (placed_start t m.start p uri)
+new_start b m t p uri c us rest old e word =
     let line = request_with p.method uri p.version in
-    let u = tree_again t line us count in
+    let u : MessageTree = record { skipped = t.skipped; start = line; fields = us; body = rest } in
     let i = length t.skipped in
     let n = (start_place u).to in
     let front : take n c ≡ t.skipped ++ line = ap (λ (z : List ℕ). take n z) e ∙ front_is u in
     let at : drop i (take n c) ≡ line = ap (λ (z : List ℕ). drop i z) front ∙ drop_at t.skipped line i refl in
     let low : i ≤ length (take n c) = omega (arith, ap (λ (z : List ℕ). length z) front, length-append t.skipped line) in
-    let there : drop i c ≡ line ++ (crlf ++ (fields us ++ (crlf ++ take count t.body))) = ap (λ (z : List ℕ). drop i z) e ∙ drop_at t.skipped (line ++ (crlf ++ (fields us ++ (crlf ++ take count t.body)))) i refl in
-    let spans = with_spans c i p.method uri p.version (crlf ++ (fields us ++ (crlf ++ take count t.body))) there in
+    let there : drop i c ≡ line ++ (crlf ++ (fields us ++ (crlf ++ rest))) = ap (λ (z : List ℕ). drop i z) e ∙ drop_at t.skipped (line ++ (crlf ++ (fields us ++ (crlf ++ rest)))) i refl in
+    let spans = with_spans c i p.method uri p.version (crlf ++ (fields us ++ (crlf ++ rest))) there in
     let old_there : drop i b ≡ request_with p.method p.uri p.version ++ (crlf ++ (fields t.fields ++ (crlf ++ t.body))) = ap (λ (z : List ℕ). drop i z) old ∙ drop_at t.skipped (t.start ++ (crlf ++ (fields t.fields ++ (crlf ++ t.body)))) i refl ∙ ap (λ (z : List ℕ). z ++ (crlf ++ (fields t.fields ++ (crlf ++ t.body)))) p.text in
     let old_spans = with_spans b i p.method p.uri p.version (crlf ++ (fields t.fields ++ (crlf ++ t.body))) old_there in
     let method : method_in b m.start ≡ p.method = ap (λ (z : Start). method_in b z) p.start ∙ old_spans.0 in
     record {
-      start = Request (span i (i + length p.method)) (span (i + length p.method + 1) (i + length p.method + 1 + length uri));
       begins = with_again (take n c) i p.method uri p.version low at p.method_word word p.is_version;
       line = (spans.0 ∙ sym method, spans.1);
     }
 
-line_method : (c : List ℕ) (s : Start) (method uri : List ℕ) (ts : List FieldTree) (x : Fields ts) → IsRequestLine c s method uri → part (value_text x.cseq_field) x.cseq.method ≡ method → Rattle.sip_laws.proofs.Reading.cookie_in (Rattle.sip_laws.specs.Sent.bytes_at (value_text x.via_field) x.via.branch) ≡ true → TreeFits c ts x s
+pub line_method : (c : List ℕ) (s : Start) (method uri : List ℕ) (ts : List FieldTree) (x : Fields ts) → IsRequestLine c s method uri → part (value_text x.cseq_field) x.cseq.method ≡ method → Rattle.sip_laws.proofs.Reading.cookie_in (Rattle.sip_laws.specs.Sent.bytes_at (value_text x.via_field) x.via.branch) ≡ true → TreeFits c ts x s
 line_method c (Status code reason) method uri ts x line same cookie = tt
 line_method c (Request me ur) method uri ts x line same cookie = (same ∙ sym line.0, cookie)
 
@@ -174,11 +172,11 @@ forwarded_reads b m source uri listen branch absent r is small word own starts b
       sip = with_speaks p.method uri p.version p.is_version;
       fields = all_append IsFieldTree h.before.new (new_field listen branch ∷ (st.new ∷ (h.after.new ++ h.extra))) h.before.are (o.is, (st.is, all_append IsFieldTree h.after.new h.extra h.after.are h.are));
     } in
-    let ns = new_start b m t p uri c us count s.text e word in
+    let ns = new_start b m t p uri c us (body_left b m s) s.text e word in
     let method = k.method ∙ cseq_method_is b m r is in
-    let fit = line_method c ns.start (method_in b m.start) uri us x ns.line method o.cookie in
+    let fit = line_method c (placed_start t m.start p uri) (method_in b m.start) uri us x ns.line method o.cookie in
     let us_len : length us ≤ 128 = omega (arith, few, a.count, h.before.count, h.after.count, h.room, length-append h.before.new (new_field listen branch ∷ (st.new ∷ (h.after.new ++ h.extra))), length-append h.after.new h.extra) in
-    let made = again b m t k c line us ns.start r e is_tree x refl ns.begins fit short us_len in
+    let made = again b m t k c line us (placed_start t m.start p uri) r e is_tree x refl ns.begins fit short us_len in
     let w = made.0 in
     let d = made.1.0 in
     let fs = w.head.fields.items in

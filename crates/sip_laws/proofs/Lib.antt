@@ -35,3 +35,4 @@ pub mod Forwarding
 pub mod Stateless
 pub mod EmptyLine
 pub mod AddedField
+pub mod UnderLine

@@ -172,6 +172,21 @@ pub record IsForwarded (b : List ℕ) (m : Message) (source : Addr) (uri : List 
   pub to_tag : bytes_at c w.to.tag ≡ bytes_at b m.to.tag
   pub body : slice_range c w.head.body w.end ≡ slice_range b m.head.body m.end
 
+-- the text c reads as the request m, which was read in b, with the proxy's Via on top: the start line, all other fields in order, their values and the body are
+-- as they were
+pub record IsUnderVia (b : List ℕ) (m : Message) (listen : Addr) (branch : List ℕ) (c : List ℕ) (w : Message) : Type 0 where
+  pub reads : Reads c w
+  pub start : w.start ≡ m.start
+  pub start_line : part c w.head.start ≡ part b m.head.start
+  pub via : SameVia (own_value listen branch) (own_via 0 listen branch) c w.via
+  pub vias : all_fields kind.Via c w ≡ via_line listen branch ++ all_fields kind.Via b m
+  pub others : (k : Kind) → is_same_kind k kind.Via ≡ false → all_fields k c w ≡ all_fields k b m
+  pub number : w.cseq.number ≡ m.cseq.number
+  pub cseq_method : part c w.cseq.method ≡ part b m.cseq.method
+  pub to_tag : bytes_at c w.to.tag ≡ bytes_at b m.to.tag
+  pub max_forwards : w.max_forwards ≡ m.max_forwards
+  pub body : slice_range c w.head.body w.end ≡ slice_range b m.head.body m.end
+
 -- the text c reads as the response m, which was written as b, with a new field of no kind that is read behind all others; the start line, the other fields in
 -- order, their values and the body are as they were
 pub record HasField (b : List ℕ) (m : Message) (new : List ℕ) (c : List ℕ) (w : Message) : Type 0 where

@@ -1,6 +1,6 @@
 //! Laws of what the proxy sends (RFC 3261, sections 8.2.6, 9.1, 16.6, 16.7 and 17.1.1.3). Each function states a law over
 //! every message that reads, and does nothing when it is called.
-ghost use Rattle.std.specs.Prelude.{◌≡◌, ◌≤◌, ◌<◌, ◌^◌, List, Some, [], codes, length, nat_eq, true, ℕ};
+ghost use Rattle.std.specs.Prelude.{◌≡◌, ◌≤◌, ◌<◌, ◌+◌, ◌^◌, List, Some, [], codes, length, nat_eq, take, true, ℕ};
 ghost use Rattle.std.specs.List.{Contains, starts_with};
 ghost use Rattle.sip_words.specs.declared.bytes.Class.TheVariants.{Visible};
 ghost use Rattle.sip_words.specs.Grammar.{IsWord};
@@ -10,17 +10,19 @@ ghost use Rattle.sip_build.specs.Reply.{reply_text};
 ghost use Rattle.sip_fields.specs.declared.via.Via.{Via as ViaValue};
 ghost use Rattle.sip_scan.specs.declared.field.HeaderSpan.{HeaderSpan as Field};
 ghost use Rattle.sip_scan.specs.declared.field.Kind.TheVariants as kind;
-ghost use Rattle.sip_msg.specs.Fields.{count};
+ghost use Rattle.msg_edits.specs.declared.parts.Edit.{Edit};
+ghost use Rattle.msg_edits.specs.Edited.{edited};
+ghost use Rattle.sip_msg.specs.Fields.{count, first};
 ghost use Rattle.sip_msg.specs.Table.{Reads};
 ghost use Rattle.sip_msg.specs.declared.message.Message.{Message as Incoming};
 ghost use Rattle.sip_build.specs.Hop.{ack_text, cancel_text};
 ghost use Rattle.sip_build.specs.Relayed.{relayed_text};
 ghost use Rattle.sip_build.specs.Forwarded.{forwarded_text};
 ghost use Rattle.sip_build.specs.Stateless.{stateless_branch, stateless_ack_text};
-ghost use Rattle.sip_build.specs.Laws.{IsOwn};
-ghost use Rattle.sip_build.specs.Parts.{part};
+ghost use Rattle.sip_build.specs.Laws.{IsOwn, before_place, other_edits};
+ghost use Rattle.sip_build.specs.Parts.{part, place_of};
 ghost use Rattle.sip_build.specs.WithField.{with_field};
-ghost use Rattle.sip_laws.specs.Sent.{HasField, IsForwarded, IsOnItsWay, IsRelayed, IsReply, IsRequest, IsResponse, most_fields, second_via, the_field};
+ghost use Rattle.sip_laws.specs.Sent.{HasField, IsForwarded, IsOnItsWay, IsRelayed, IsReply, IsRequest, IsResponse, IsUnderVia, most_fields, second_via, the_field};
 
 /// The ACK for a response to a request that was sent reads, where the request has at most 121 Route fields and the ACK at
 /// most 8,192 bytes: as an ACK on the way of that request, with To of the response.
@@ -68,6 +70,20 @@ pub fn a_forwarded_request_reads()
         → length m.head.fields.items ≤ most_fields m.max_forwards
         → length (forwarded_text b m source [] uri listen branch absent) ≤ 8192
         → (w : Incoming) × IsForwarded b m source uri listen branch absent (forwarded_text b m source [] uri listen branch absent) w }
+{}
+
+/// The request that the proxy forwards with edits of a script reads, where the text with all edits but the line Via reads as a
+/// request with at most 127 fields, the first Via field of that request begins where the line is put in (edits of a script
+/// may break these), and the whole has at most 8,192 bytes: with the proxy's Via on top, and all else as it is in that text.
+pub fn a_forwarded_request_with_edits_reads()
+    ensures { (b : List ℕ) (m : Incoming) (source : Address) (edits : List Edit) (uri : List ℕ) (listen : Address) (branch : List ℕ) (absent : ℕ) (t : Incoming)
+        → Reads b m → IsOwn listen branch → starts_with nat_eq branch (codes "z9hG4bK") ≡ true
+        → let text = take m.end b in
+        let others = other_edits b m source edits uri absent in
+        let front = before_place text others (place_of (first kind.Via m.head.fields.items) (m.head.start.to + 2)) in
+        Reads (edited text others) t → IsRequest t.start → place_of (first kind.Via t.head.fields.items) (t.head.start.to + 2) ≡ length front
+        → length t.head.fields.items ≤ 127 → length (forwarded_text b m source edits uri listen branch absent) ≤ 8192
+        → (w : Incoming) × IsUnderVia (edited text others) t listen branch (forwarded_text b m source edits uri listen branch absent) w }
 {}
 
 /// The ACK that the proxy forwards without a transaction and without edits of a script reads, under the same premises: as

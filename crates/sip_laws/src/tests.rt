@@ -1,5 +1,5 @@
 //! Each law at one message that was worked out by hand, and texts that don't read.
-use msg_edits::TooLong;
+use msg_edits::{Edits, TooLong};
 use outside_ports::Addr;
 use sip_build::{ack, append_field, cancel, forwarded, relayed_reply, reply, stateless_ack};
 use sip_msg::{Message, MsgFault, Span, Start};
@@ -188,6 +188,31 @@ fn what_is_forwarded_reads(rt: HostRuntime) {
     );
     goes_to(&rt, "a request", &room, result, b"sip:c@h;x=1", 68);
     reads(&rt, "a request", &room, result, b"z9hG4bK2", 17, b"INVITE");
+    let mut edits = Edits::new();
+    let routes = Span { from: 101, to: 131 };
+    assert!(rt; stands(SENT, routes, b"Route: <sip:p1;lr>, <sip:p2>\r\n"));
+    assert!(rt; edits.cut(routes).is_ok());
+    let result = forwarded(
+        SENT,
+        &m,
+        CALLER,
+        edits.as_slice(),
+        b"sip:c@h",
+        PROXY,
+        b"z9hG4bK3",
+        70,
+        &mut room,
+    );
+    goes_to(&rt, "an edited request", &room, result, b"sip:c@h", 68);
+    reads(
+        &rt,
+        "an edited request",
+        &room,
+        result,
+        b"z9hG4bK3",
+        17,
+        b"INVITE",
+    );
     let result = stateless_ack(ACKED, &am, CALLER, &[], b"sip:c@h", PROXY, 70, &mut room);
     goes_to(&rt, "an ACK", &room, result, b"sip:c@h", 70);
     reads(&rt, "an ACK", &room, result, b"z9hG4bKsl.9", 17, b"ACK");
