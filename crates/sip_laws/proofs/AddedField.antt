@@ -27,7 +27,7 @@ use Rattle.sip_laws.proofs.Hops.{no_list, via_then}
 use Rattle.sip_laws.proofs.Known.{known_by, known}
 use Rattle.sip_laws.proofs.Relaying.{other_kind, front_is, start_of_tree, status_fits}
 use Rattle.sip_laws.proofs.Renewed.{NewFields, renewed, same_find, hops_stay}
-use Rattle.sip_laws.proofs.Again.{whole_body, again_with}
+use Rattle.sip_laws.proofs.Again.{whole_body, again_with, made_count}
 use Rattle.sip_laws.proofs.EmptyLine.{empty_line_is}
 
 -- a field of a message by its tree
@@ -117,6 +117,7 @@ field_added b m new r is word on few short =
         via = via_then (Rattle.sip_laws.proofs.Hops.via_sym k.via) d.via;
         added = texts_stand kind.Other c fs us d.stand ∙ ap fields more ∙ fields_append (all_named kind.Other ts) (new ∷ []) ∙ ap (λ (z : List ℕ). fields (all_named kind.Other ts) ++ z) (append-nil (field new)) ∙ ap (λ (z : List ℕ). z ++ field new) (sym (texts_stand kind.Other b m.head.fields.items ts k.stand));
         others = λ o ne. texts_stand o c fs us d.stand ∙ ap fields (named_more o ts new (other_kind o kind.Other new on ne)) ∙ sym (texts_stand o b m.head.fields.items ts k.stand);
+        fields = omega (arith, made_count c u x m.start w d, count, length-append ts (new ∷ []));
         number = sym d.number ∙ k.number;
         cseq_method = sym d.method ∙ k.method;
         to_tag = sym d.tag ∙ k.tag;

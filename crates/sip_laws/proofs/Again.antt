@@ -10,6 +10,7 @@ use Rattle.sip_msg.specs.declared.start.Start.{Start}
 use Rattle.sip_msg.specs.Start.{start_at}
 use Rattle.sip_msg.specs.Table.{end_behind, Reads}
 use Rattle.sip_msg.proofs.Lies.{lies}
+use Rattle.sip_build.proofs.ReadsUnder.{places_length}
 use Rattle.sip_build.proofs.Spelt.{fields_from}
 use Rattle.sip_laws.proofs.Trees.{Fields}
 use Rattle.sip_laws.proofs.Reading.{TreeFits, Made, tree_reads}
@@ -97,3 +98,7 @@ pub again : (b : List ℕ) (m : Message) (t : MessageTree) (k : KnownBy b m t) (
     c ≡ message u → IsMessageTree u → (x : Fields us) → x.size ≡ k.fields.size → start_at (take (start_place u).to c) (start_place u).from ≡ Some st → TreeFits c us x st → length c ≤ 8192 → length us ≤ 128
     → (w : Message) × (Made c u x st w × (slice_range c w.head.body w.end ≡ slice_range b m.head.body m.end))
 again b m t k c start us st r e is x same_size begins fit short few = again_with b m t k c start us st (take (m.end - m.head.body) t.body) r e is x same_size (cut_body b m t k.fields.size r k.text k.head) begins fit short few
+
+-- how many fields the text has
+pub made_count : (c : List ℕ) (t : MessageTree) (x : Fields t.fields) (st : Start) (w : Message) → Made c t x st w → length w.head.fields.items ≡ length t.fields
+made_count c t x st w d = ap (λ (h : Head). length h.fields.items) d.head ∙ places_length (fields_from t) t.fields

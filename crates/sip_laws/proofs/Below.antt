@@ -37,7 +37,7 @@ use Rattle.sip_laws.proofs.Known.{KnownBy, known_by}
 use Rattle.sip_laws.proofs.Relaying.{all_behind, find_behind, named_behind, other_kind, front_is, start_of_tree, status_fits, not_long, sizes}
 use Rattle.sip_laws.proofs.Around.{front_text, via_field_place, Around, five, around, named_swap, all_swap}
 use Rattle.sip_laws.proofs.Renewed.{SameKnown, NewFields, renewed, hops_stay}
-use Rattle.sip_laws.proofs.Again.{tree_again, again}
+use Rattle.sip_laws.proofs.Again.{tree_again, again, made_count}
 use Rattle.sip_laws.proofs.NextValue.{less_via}
 
 -- what stands in the place of the first Via field: none, or one whose text is what is left of it
@@ -118,6 +118,7 @@ below_reads b m s v c r is l =
         start_line = line_c ∙ ap (λ (z : List ℕ). part z (span from n)) (sym same_front) ∙ sym line_b;
         via = via_then (via_sym l.same) d.via;
         vias = mine ∙ sym theirs;
+        fields = omega (arith, made_count c u x m.start w d, a.count, l.one, length-append before (l.mid ++ after), length-append l.mid after);
         others = λ o ne. texts_stand o c fs us d.stand ∙ ap fields (named_swap o before here l.mid after (other_kind o kind.Via here a.named ne) (named_past o kind.Via l.mid after ne l.named) ∙ ap (λ (z : List FieldTree). all_named o z) (sym s.cut.whole)) ∙ sym (texts_stand o b m.head.fields.items ts k.stand);
         number = sym d.number ∙ k.number;
         cseq_method = sym d.method ∙ k.method;

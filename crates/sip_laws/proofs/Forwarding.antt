@@ -32,7 +32,7 @@ use Rattle.sip_build.proofs.Spelt.{Spelt, spelt}
 use Rattle.sip_build.proofs.Twins.{value_text}
 use Rattle.sip_build.proofs.UnderVia.{values_stand, stand}
 use Rattle.sip_laws.specs.Sent.{SameVia, IsRequest, IsRequestLine, all_fields, method_in, most_fields, IsForwarded}
-use Rattle.sip_laws.proofs.Trees.{is_named, all_named, texts_stand, Fields, ListReads}
+use Rattle.sip_laws.proofs.Trees.{is_named, all_named, count_stands, texts_stand, Fields, ListReads}
 use Rattle.sip_laws.proofs.Tags.{all_append}
 use Rattle.sip_laws.proofs.Hops.{filter_count}
 use Rattle.sip_laws.proofs.Reading.{TreeFits}
@@ -41,7 +41,7 @@ use Rattle.sip_laws.proofs.Relaying.{all_behind, find_behind, named_behind, othe
 use Rattle.sip_laws.proofs.StampedVia.{StampedVia}
 use Rattle.sip_laws.proofs.Around.{front_text, Around, around}
 use Rattle.sip_laws.proofs.StampedVias.{first_stamped, vias_text}
-use Rattle.sip_laws.proofs.Renewed.{SameOthers, NewFields, renewed, same_find}
+use Rattle.sip_laws.proofs.Renewed.{SameOthers, NewFields, renewed, same_find, same_count}
 use Rattle.sip_laws.proofs.Again.{tree_again, again}
 use Rattle.sip_laws.proofs.StartWith.{request_with, with_again, with_speaks, with_is_line, with_spans}
 use Rattle.sip_laws.proofs.StartParts.{StartParts, start_parts}
@@ -190,6 +190,7 @@ forwarded_reads b m source uri listen branch absent r is small word own starts b
         vias = texts_stand kind.Via c fs us d.stand ∙ ap fields kept ∙ ap (λ (z : List ℕ). z ++ fields (st.new ∷ all_named kind.Via s.cut.after)) (new_field_is listen branch) ∙ ap (λ (z : List ℕ). via_line listen branch ++ z) (sym (vias_text b m source s a st));
         max_forwards = d.hops;
         others = λ n via hops. texts_stand n c fs us d.stand ∙ ap fields (others n via hops) ∙ sym (texts_stand n b m.head.fields.items t.fields k.stand);
+        counts = λ n via hops. count_stands n c fs us d.stand ∙ same_count n t.fields us (others n via hops) ∙ sym (count_stands n b m.head.fields.items t.fields k.stand);
         number = sym d.number ∙ k.number;
         cseq_method = sym d.method ∙ k.method;
         to_tag = sym d.tag ∙ k.tag;

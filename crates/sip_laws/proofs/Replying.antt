@@ -49,6 +49,7 @@ use Rattle.sip_laws.proofs.Tags.{Tagged, pick, tally, keep, find_tagged, count_t
 use Rattle.sip_laws.proofs.Known.{KnownBy, known_by}
 use Rattle.sip_laws.proofs.Hops.{via_sym, via_then, size_field, is_size, no_list, filter_count, back_tags}
 use Rattle.sip_laws.proofs.Relaying.{all_behind, find_behind, named_behind, some_count}
+use Rattle.sip_laws.proofs.Again.{made_count}
 use Rattle.sip_laws.proofs.Around.{around}
 use Rattle.sip_laws.proofs.StampedVias.{first_stamped, vias_text}
 use Rattle.sip_laws.proofs.Placed.{placed}
@@ -361,6 +362,7 @@ reply_reads b m source code reason r small low high one few short =
         line = subst (λ (y : Start). IsStatusLine c y code reason) (sym d.start) (refl, reason_is c (decimal code) reason rest e);
         via = via_then (via_sym k.via) (via_then vi.same d.via);
         vias = texts_stand kind.Via c fs us d.stand ∙ ap fields (vias_kept vs back o) ∙ sym vi.text;
+        fields = omega (arith, made_count c t fields_are st w d, vi.size, length-append vs back);
         from = text_stands kind.From c fs us x.from_field d.stand fields_are.from_first ∙ sym from_text;
         to = text_stands kind.To c fs us to.new d.stand fields_are.to_first ∙ sym to.text;
         to_tag = λ nb. sym d.tag ∙ to.tag nb;

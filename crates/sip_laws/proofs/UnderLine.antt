@@ -1,5 +1,5 @@
 -- A request that is forwarded with edits of a script reads, where the text with all edits but the proxy's Via reads.
-use Rattle.std.proofs.Common.{◌≡◌, ℕ, suc, ◌+◌, ◌-◌, ◌≤◌, Bool, true, false, List, [], ◌∷◌, ◌++◌, length, take, drop, refl, sym, ap, ◌∙◌, subst, arith, append_assoc, length-append, Option, Some, None}
+use Rattle.std.proofs.Common.{◌≡◌, ℕ, ◌+◌, ◌≤◌, true, false, List, [], ◌∷◌, ◌++◌, length, take, drop, refl, sym, ap, ◌∙◌, subst, arith, append_assoc, length-append, Option, Some}
 use Rattle.std.specs.Prelude.{codes, nat_eq}
 use Rattle.std.specs.List.{find, starts_with, AllByRecursion}
 use Rattle.std.proofs.lemmas.List.{take_at, drop_at}
@@ -22,20 +22,19 @@ use Rattle.msg_edits.specs.Edited.{edited}
 use Rattle.outside_ports.specs.declared.port.Addr.{Addr}
 use Rattle.sip_build.specs.Parts.{part, place_of}
 use Rattle.sip_build.specs.Forwarded.{via_line, forwarded_text}
-use Rattle.sip_build.specs.Laws.{IsOwn, own_value, own_via, other_edits, before_place, from_place}
+use Rattle.sip_build.specs.Laws.{IsOwn, own_via, other_edits, before_place, from_place}
 use Rattle.sip_build.proofs.LineLaw.{line_is_put_in}
 use Rattle.sip_build.proofs.NewVia.{new_field, new_field_is}
 use Rattle.sip_build.proofs.Spelt.{Spelt, spelt, before_fields, behind_fields, in_fields, fields_append}
 use Rattle.sip_build.proofs.Under.{in_front}
 use Rattle.sip_laws.specs.Sent.{SameVia, IsRequest, all_fields, method_in, IsUnderVia}
-use Rattle.sip_laws.proofs.Trees.{is_named, all_named, texts_stand, ListReads}
-use Rattle.sip_laws.proofs.Tags.{all_append}
+use Rattle.sip_laws.proofs.Trees.{is_named, all_named, count_stands, texts_stand, ListReads}
 use Rattle.sip_laws.proofs.Known.{KnownBy, known_by}
 use Rattle.sip_laws.proofs.Relaying.{find_behind, named_behind, other_kind, front_is, start_of_tree}
 use Rattle.sip_laws.proofs.Around.{front_text, Around, five, around}
-use Rattle.sip_laws.proofs.Renewed.{NewFields, renewed, hops_stay}
+use Rattle.sip_laws.proofs.Renewed.{NewFields, renewed, hops_stay, same_count}
 use Rattle.sip_laws.proofs.Again.{whole_body, again_with}
-use Rattle.sip_laws.proofs.StartParts.{StartParts, start_parts}
+use Rattle.sip_laws.proofs.StartParts.{start_parts}
 use Rattle.sip_laws.proofs.Forwarding.{cseq_method_is, new_start, line_method}
 use Rattle.sip_laws.proofs.OwnField.{OwnField, own_field}
 
@@ -117,6 +116,7 @@ under_line b m listen branch s c r is own starts few short laid =
         via = subst (λ (z : List ℕ). SameVia z (own_via 0 listen branch) c w.via) o.value d.via;
         vias = texts_stand kind.Via c fs us d.stand ∙ ap fields kept ∙ ap (λ (z : List ℕ). z ++ fields (all_named kind.Via ts)) (new_field_is listen branch) ∙ ap (λ (z : List ℕ). via_line listen branch ++ z) (sym (texts_stand kind.Via b m.head.fields.items ts k.stand));
         others = λ q ne. texts_stand q c fs us d.stand ∙ ap fields (others q ne) ∙ sym (texts_stand q b m.head.fields.items ts k.stand);
+        counts = λ q ne. count_stands q c fs us d.stand ∙ same_count q ts us (others q ne) ∙ sym (count_stands q b m.head.fields.items ts k.stand);
         number = sym d.number ∙ k.number;
         cseq_method = sym d.method ∙ k.method;
         to_tag = sym d.tag ∙ k.tag;

@@ -1,5 +1,5 @@
 -- What is said of the messages that the proxy sends: that they read, and as what (RFC 3261, sections 8.2.6, 9.1, 16.6, 16.7 and 17.1.1.3).
-use Rattle.std.specs.Prelude.{◌≡◌, ◌≢◌, false, ℕ, ◌-◌, ◌++◌, List, [], ◌∷◌, Option, Some, None, IfSome, cond, codes, drop, take, slice_range, if◌then◌else◌}
+use Rattle.std.specs.Prelude.{◌≡◌, ◌≢◌, false, ℕ, ◌+◌, ◌-◌, ◌≤◌, ◌++◌, List, [], ◌∷◌, Option, Some, None, IfSome, cond, codes, drop, length, take, slice_range, if◌then◌else◌}
 use Rattle.std.specs.List.{filter, flat_map}
 use Rattle.sip_words.specs.declared.Span.{Span}
 use Rattle.sip_fields.specs.declared.via.Via.{Via}
@@ -10,7 +10,7 @@ use Rattle.sip_scan.specs.declared.field.Kind.TheVariants as kind
 use Rattle.sip_msg.specs.declared.message.Message.{Message}
 use Rattle.sip_msg.specs.declared.start.Start.{Start}
 use Rattle.sip_msg.specs.declared.start.Start.TheVariants.{Request, Status}
-use Rattle.sip_msg.specs.Fields.{is_of, first}
+use Rattle.sip_msg.specs.Fields.{is_of, first, count}
 use Rattle.sip_msg.specs.Table.{Reads}
 use Rattle.sip_msg.specs.Values.{via_of}
 use Rattle.sip_scan.specs.Field.{is_same_kind}
@@ -114,6 +114,7 @@ pub record IsRelayed (b : List ℕ) (m : Message) (v : Via) (c : List ℕ) (w : 
   pub start_line : part c w.head.start ≡ part b m.head.start
   pub via : SameVia b v c w.via
   pub vias : all_fields kind.Via c w ≡ vias_below b m
+  pub fields : length w.head.fields.items ≤ length m.head.fields.items
   pub others : (k : Kind) → is_same_kind k kind.Via ≡ false → all_fields k c w ≡ all_fields k b m
   pub number : w.cseq.number ≡ m.cseq.number
   pub cseq_method : part c w.cseq.method ≡ part b m.cseq.method
@@ -133,6 +134,7 @@ pub record IsReply (b : List ℕ) (m : Message) (source : Addr) (code : ℕ) (re
   pub line : IsStatusLine c w.start code reason
   pub via : SameVia b m.via c w.via
   pub vias : all_fields kind.Via c w ≡ edited_vias b (stamp m.via source) m.head.fields.items
+  pub fields : length w.head.fields.items ≡ count kind.Via m.head.fields.items + 5
   pub from : the_field kind.From c w ≡ the_field kind.From b m
   pub to : the_field kind.To c w ≡ reply_to_field b (first kind.To m.head.fields.items) (Some m.to) code (reply_tag b m.via.branch)
   pub to_tag : NoBareTag b m → bytes_at c w.to.tag ≡ (if gives_tag code m.to then Some (reply_tag b m.via.branch) else bytes_at b m.to.tag)
@@ -167,6 +169,7 @@ pub record IsForwarded (b : List ℕ) (m : Message) (source : Addr) (uri : List 
   pub vias : all_fields kind.Via c w ≡ via_line listen branch ++ edited_vias b (stamp m.via source) m.head.fields.items
   pub max_forwards : w.max_forwards ≡ Some (hops_left m.max_forwards absent)
   pub others : (k : Kind) → is_same_kind k kind.Via ≡ false → is_same_kind k kind.MaxForwards ≡ false → all_fields k c w ≡ all_fields k b m
+  pub counts : (k : Kind) → is_same_kind k kind.Via ≡ false → is_same_kind k kind.MaxForwards ≡ false → count k w.head.fields.items ≡ count k m.head.fields.items
   pub number : w.cseq.number ≡ m.cseq.number
   pub cseq_method : part c w.cseq.method ≡ part b m.cseq.method
   pub to_tag : bytes_at c w.to.tag ≡ bytes_at b m.to.tag
@@ -181,6 +184,7 @@ pub record IsUnderVia (b : List ℕ) (m : Message) (listen : Addr) (branch : Lis
   pub via : SameVia (own_value listen branch) (own_via 0 listen branch) c w.via
   pub vias : all_fields kind.Via c w ≡ via_line listen branch ++ all_fields kind.Via b m
   pub others : (k : Kind) → is_same_kind k kind.Via ≡ false → all_fields k c w ≡ all_fields k b m
+  pub counts : (k : Kind) → is_same_kind k kind.Via ≡ false → count k w.head.fields.items ≡ count k m.head.fields.items
   pub number : w.cseq.number ≡ m.cseq.number
   pub cseq_method : part c w.cseq.method ≡ part b m.cseq.method
   pub to_tag : bytes_at c w.to.tag ≡ bytes_at b m.to.tag
@@ -196,6 +200,7 @@ pub record HasField (b : List ℕ) (m : Message) (new : List ℕ) (c : List ℕ)
   pub via : SameVia b m.via c w.via
   pub added : all_fields kind.Other c w ≡ all_fields kind.Other b m ++ new
   pub others : (k : Kind) → is_same_kind k kind.Other ≡ false → all_fields k c w ≡ all_fields k b m
+  pub fields : length w.head.fields.items ≡ length m.head.fields.items + 1
   pub number : w.cseq.number ≡ m.cseq.number
   pub cseq_method : part c w.cseq.method ≡ part b m.cseq.method
   pub to_tag : bytes_at c w.to.tag ≡ bytes_at b m.to.tag

@@ -59,10 +59,10 @@ pub fn a_relayed_response_reads()
 {}
 
 /// The request that the proxy forwards without edits of a script reads, where it has at most 127 fields (126 where it has
-/// no Max-Forwards), its new URI has no blank and no control byte, the branch is a token that begins with `z9hG4bK`, the
-/// Max-Forwards of a request without one is at most 255, and the text has at most 8,192 bytes: with the proxy's Via on
-/// top, the Via fields of the request in order below it, the top value stamped, its method, the new URI and one hop less,
-/// and all else as received.
+/// no Max-Forwards), its new URI isn't empty and has no SP, no DEL and no control byte, the proxy's port isn't 0, the branch
+/// is a token that begins with `z9hG4bK`, the Max-Forwards for a request without one is at most 255, and the text has at most
+/// 8,192 bytes: with the proxy's Via on top, the Via fields of the request in order below it, the top value stamped, its
+/// method, the new URI and one hop less, and all else as received.
 pub fn a_forwarded_request_reads()
     ensures { (b : List ℕ) (m : Incoming) (source : Address) (uri : List ℕ) (listen : Address) (branch : List ℕ) (absent : ℕ) → Reads b m
         → IsRequest m.start → source.port < 2 ^ 16 → IsWord Visible uri → IsOwn listen branch
