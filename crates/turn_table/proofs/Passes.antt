@@ -143,6 +143,24 @@ module _ {C F R N : Type 0} where
       first : (q : Seat (Option C) (PassView F R N)) → get_elem? qs 0 ≡ some q → (q.me.0.made ≡ length qs) × (q.me.0.got ≡ [])
       first q e = let g = on_at 0 q e in let t = new_at 0 q e in (g.made ∙ (ap (λ (v : PassView F R N). v.made) t.2 ∙ (sym new.0 ∙ sym count)), g.got ∙ ap (λ (v : PassView F R N). v.got) t.2)
 
+  -- the passes of a table for two, taken out of their list one after the other, and put back
+  pub both_gone_on : (z : TableId) (f : F) (ps rest none one both : List (Seat (Option C) (PassView F R N))) (p q p' q' : Seat (Option C) (PassView F R N)) → AreNewPasses z f 2 ps
+      → p ≡ get_or ps 0 p → rest ≡ take 0 ps ++ drop 1 ps → q ≡ get_or rest 0 q → none ≡ take 0 rest ++ drop 1 rest → one ≡ none ++ p' ∷ [] → both ≡ one ++ q' ∷ []
+      → GoesOn p p' → GoesOn q q' → AreAllPasses z f both
+  both_gone_on z f [] rest none one both p q p' q' new is_p is_rest is_q is_none is_one is_both on_p on_q = absurd (let l = new.0 in omega arith)
+  both_gone_on z f (x ∷ []) rest none one both p q p' q' new is_p is_rest is_q is_none is_one is_both on_p on_q = absurd (let l = new.0 in omega arith)
+  both_gone_on z f (x ∷ y ∷ u ∷ us) rest none one both p q p' q' new is_p is_rest is_q is_none is_one is_both on_p on_q = absurd (let l = new.0 in omega arith)
+  both_gone_on z f (x ∷ y ∷ []) rest none one both p q p' q' new is_p is_rest is_q is_none is_one is_both on_p on_q =
+      subst (λ (l : List (Seat (Option C) (PassView F R N))). AreAllPasses z f l) (sym all) (all_gone_on z f 2 (x ∷ y ∷ []) (p' ∷ q' ∷ []) new (omega arith) refl each)
+    where
+      all : both ≡ p' ∷ q' ∷ []
+      all = is_both ∙ ap (λ (l : List (Seat (Option C) (PassView F R N))). l ++ q' ∷ []) (is_one ∙ ap (λ (l : List (Seat (Option C) (PassView F R N))). l ++ p' ∷ []) (is_none ∙ ap (λ (l : List (Seat (Option C) (PassView F R N))). take 0 l ++ drop 1 l) is_rest))
+
+      each : (i : ℕ) (d : Seat (Option C) (PassView F R N)) → i < 2 → GoesOn (get_or (x ∷ y ∷ []) i d) (get_or (p' ∷ q' ∷ []) i d)
+      each zero d l = subst (λ (z : Seat (Option C) (PassView F R N)). GoesOn z p') is_p on_p
+      each (suc zero) d l = subst (λ (z : Seat (Option C) (PassView F R N)). GoesOn z q') (is_q ∙ ap (λ (l : List (Seat (Option C) (PassView F R N))). get_or l 0 q) is_rest) on_q
+      each (suc (suc i)) d l = absurd (omega arith)
+
   pub goes_on_start : (p : Seat (Option C) (PassView F R N)) → HoldsNone p → GoesOn p p
   goes_on_start p free = record { same = (refl, refl); free = free; fixed = refl; number = refl; made = refl; got = refl }
 
