@@ -3,8 +3,8 @@ ghost use Rattle.std.specs.Prelude.{◌≡◌};
 ghost use Rattle.ht_shared.specs.Stands.{TableStands};
 ghost use Rattle.ht_shared.specs.Told.{operation};
 
-use ht_core::{TabOp, TabRecord, TabReply, Table};
 use histories::Telling;
+use ht_core::{TabOp, TabRecord, TabReply, Table};
 use pv_values::{Patterns, TableSpec};
 use std::alloc::AllocError as NoMemory;
 use std::snapshot::Snapshot;

@@ -1,4 +1,4 @@
-ghost use Rattle.std.specs.Prelude.{◌≡◌, ◌<◌, IfOk};
+ghost use Rattle.std.specs.Prelude.{◌≡◌, []};
 ghost use Rattle.turn_table.specs.Passes.{HoldsNone, GoesOn};
 ghost use Rattle.ht_shared.specs.Shared.{IsTablesPass, patterns_of, count_of};
 
@@ -33,14 +33,14 @@ fn count<R: Wait>(
     rt: &R,
     alloc: Global,
     tables: &Tables,
-    patterns: &Patterns,
     pass: &mut Pass<TableCell>,
     times: u32,
 ) -> Result<i64, AllocError>
     requires own { IsTablesPass tables.now pass.old × HoldsNone pass.old }
-    requires tables { (count_of tables.now ≡ 2) × (patterns.now ≡ patterns_of tables.now) }
+    requires tables { (count_of tables.now ≡ 2) × (patterns_of tables.now ≡ []) }
     ensures on { GoesOn pass.old pass.new }
 {
+    let patterns = Patterns::of(Vec::new(alloc));
     let mut last = 0;
     for time in 0..times {
         let reply = tables.apply(
@@ -49,7 +49,7 @@ fn count<R: Wait>(
             pass,
             1,
             TabOp::Inc(key(alloc)?),
-            patterns,
+            &patterns,
             u64::from(time),
         )?;
         last = number(reply);
@@ -62,14 +62,13 @@ fn counted<R: Wait>(
     rt: &R,
     alloc: Global,
     tables: &Tables,
-    patterns: &Patterns,
     mut pass: Pass<TableCell>,
 ) -> (Pass<TableCell>, i64)
     requires own { IsTablesPass tables.now pass × HoldsNone pass }
-    requires tables { (count_of tables.now ≡ 2) × (patterns.now ≡ patterns_of tables.now) }
+    requires tables { (count_of tables.now ≡ 2) × (patterns_of tables.now ≡ []) }
     ensures on { GoesOn pass result.0 }
 {
-    let last = count(rt, alloc, tables, patterns, &mut pass, 1000);
+    let last = count(rt, alloc, tables, &mut pass, 1000);
     (pass, last.unwrap_or(-1))
 }
 
@@ -85,19 +84,22 @@ fn count_by_two<R: Threads + Wait + Sync>(
     let (one, two) = join(
         rt,
         || -> (Pass<TableCell>, i64)
-            requires { IsTablesPass tables one × HoldsNone one × (count_of tables ≡ 2) × (patterns ≡ patterns_of tables) }
+            requires { IsTablesPass tables one × HoldsNone one × (count_of tables ≡ 2) × (patterns_of tables ≡ []) }
             ensures { GoesOn one result.0 }
-        { counted(rt, alloc, &tables, &patterns, one) },
+        { counted(rt, alloc, &tables, one) },
         || -> (Pass<TableCell>, i64)
-            requires { IsTablesPass tables two × HoldsNone two × (count_of tables ≡ 2) × (patterns ≡ patterns_of tables) }
+            requires { IsTablesPass tables two × HoldsNone two × (count_of tables ≡ 2) × (patterns_of tables ≡ []) }
             ensures { GoesOn two result.0 }
-        { counted(rt, alloc, &tables, &patterns, two) },
+        { counted(rt, alloc, &tables, two) },
     );
     let (one, a) = one;
     let (two, b) = two;
     passes.push_reserved(one);
     passes.push_reserved(two);
-    let Closed { mut values, last: _ } = tables.close(passes);
+    let Closed {
+        mut values,
+        last: _,
+    } = tables.close(passes);
     let changed = left_in(alloc, values.pop(), &patterns)?;
     let other = left_in(alloc, values.pop(), &patterns)?;
     Ok((changed, other, a.max(b)))
@@ -121,4 +123,16 @@ fn left_in(
 fn two_threads_count_to_2000(rt: HostRuntime) -> Result<(), Fail> {
     assert!(rt; count_by_two(&rt, rt.alloc())? == (2000, -1, 2000));
     Ok(())
+}
+
+fn shares<T: Sync>(_x: &T) {}
+
+fn sends<T: Send>(x: T) -> T {
+    x
+}
+
+// Tables may be shared, and passes may cross threads.
+fn crosses(tables: &Tables, pass: Pass<TableCell>) -> Pass<TableCell> {
+    shares(tables);
+    sends(pass)
 }

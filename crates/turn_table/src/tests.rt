@@ -142,12 +142,7 @@ fn work<R: Wait>(rt: &R, turns: &Turns<Sum>, worker: &mut Worker, number: usize,
 }
 
 // Each worker adds in a thread of its own.
-fn run_all<R: Threads + Wait + Sync>(
-    rt: &R,
-    turns: &Turns<Sum>,
-    workers: &mut [Worker],
-    cells: u32,
-)
+fn run_all<R: Threads + Wait + Sync>(rt: &R, turns: &Turns<Sum>, workers: &mut [Worker], cells: u32)
     requires own { (i : ℕ) (d : Worker) → i < length workers.old → IsPassOf turns.now (slice_index_or workers.old i d).pass × HoldsNone (slice_index_or workers.old i d).pass }
     requires cells { (cells_of turns.now ≡ cells) × (0 < cells) }
     ensures count { length workers.new ≡ length workers.old }
