@@ -14,13 +14,18 @@ use Rattle.turn_table.specs.declared.view.PassView.{PassView}
 use Rattle.histories.specs.declared.record.LogItem.{LogItem}
 use Rattle.turn_table.specs.Views.{first_view, view_after_deal, dealt_view, view_after_gather, spent_view}
 use Rattle.turn_table.specs.Cells.{IsTurnTable}
-use Rattle.turn_table.specs.Passes.{IsPass, HoldsNone, AreNewPasses, AreAllPasses, GoesOn, IsSameSeat, TakesTurn, GivesBack, Follow, IsClosedTable, own_of}
+use Rattle.turn_table.specs.Passes.{IsPass, HoldsNone, AreNewPasses, AreAllPasses, GoesOn, IsSameSeat, TakesTurn, GivesBack, Notes, Follow, IsClosedTable, own_of}
 use Rattle.turn_table.proofs.Lists.{at_below}
 use Rattle.turn_table.proofs.Seats.{at_end, splits, joins, opens, closes}
 
 pub head_is : {A : Type 0} (ps : List A) (p : A) → 0 < length ps → p ≡ get_or ps 0 p → get_elem? ps 0 ≡ some p
 head_is [] p l e = absurd (omega arith)
 head_is (x ∷ xs) p l e = ap some (sym e)
+
+pub second_is : {A : Type 0} (ps rest : List A) (p : A) → 1 < length ps → rest ≡ take 0 ps ++ drop 1 ps → p ≡ get_or rest 0 p → get_elem? ps 1 ≡ some p
+second_is [] rest p l same e = absurd (omega arith)
+second_is (x ∷ []) rest p l same e = absurd (omega arith)
+second_is (x ∷ y ∷ ys) rest p l same e = ap some (sym (e ∙ ap (λ z. get_or z 0 p) same))
 
 module _ {C F R N : Type 0} where
   -- the passes that were made so far, but for the first
@@ -138,6 +143,24 @@ module _ {C F R N : Type 0} where
       first : (q : Seat (Option C) (PassView F R N)) → get_elem? qs 0 ≡ some q → (q.me.0.made ≡ length qs) × (q.me.0.got ≡ [])
       first q e = let g = on_at 0 q e in let t = new_at 0 q e in (g.made ∙ (ap (λ (v : PassView F R N). v.made) t.2 ∙ (sym new.0 ∙ sym count)), g.got ∙ ap (λ (v : PassView F R N). v.got) t.2)
 
+  -- the passes of a table for two, taken out of their list one after the other, and put back
+  pub both_gone_on : (z : TableId) (f : F) (ps rest none one both : List (Seat (Option C) (PassView F R N))) (p q p' q' : Seat (Option C) (PassView F R N)) → AreNewPasses z f 2 ps
+      → p ≡ get_or ps 0 p → rest ≡ take 0 ps ++ drop 1 ps → q ≡ get_or rest 0 q → none ≡ take 0 rest ++ drop 1 rest → one ≡ none ++ p' ∷ [] → both ≡ one ++ q' ∷ []
+      → GoesOn p p' → GoesOn q q' → AreAllPasses z f both
+  both_gone_on z f [] rest none one both p q p' q' new is_p is_rest is_q is_none is_one is_both on_p on_q = absurd (let l = new.0 in omega arith)
+  both_gone_on z f (x ∷ []) rest none one both p q p' q' new is_p is_rest is_q is_none is_one is_both on_p on_q = absurd (let l = new.0 in omega arith)
+  both_gone_on z f (x ∷ y ∷ u ∷ us) rest none one both p q p' q' new is_p is_rest is_q is_none is_one is_both on_p on_q = absurd (let l = new.0 in omega arith)
+  both_gone_on z f (x ∷ y ∷ []) rest none one both p q p' q' new is_p is_rest is_q is_none is_one is_both on_p on_q =
+      subst (λ (l : List (Seat (Option C) (PassView F R N))). AreAllPasses z f l) (sym all) (all_gone_on z f 2 (x ∷ y ∷ []) (p' ∷ q' ∷ []) new (omega arith) refl each)
+    where
+      all : both ≡ p' ∷ q' ∷ []
+      all = is_both ∙ ap (λ (l : List (Seat (Option C) (PassView F R N))). l ++ q' ∷ []) (is_one ∙ ap (λ (l : List (Seat (Option C) (PassView F R N))). l ++ p' ∷ []) (is_none ∙ ap (λ (l : List (Seat (Option C) (PassView F R N))). take 0 l ++ drop 1 l) is_rest))
+
+      each : (i : ℕ) (d : Seat (Option C) (PassView F R N)) → i < 2 → GoesOn (get_or (x ∷ y ∷ []) i d) (get_or (p' ∷ q' ∷ []) i d)
+      each zero d l = subst (λ (z : Seat (Option C) (PassView F R N)). GoesOn z p') is_p on_p
+      each (suc zero) d l = subst (λ (z : Seat (Option C) (PassView F R N)). GoesOn z q') (is_q ∙ ap (λ (l : List (Seat (Option C) (PassView F R N))). get_or l 0 q) is_rest) on_q
+      each (suc (suc i)) d l = absurd (omega arith)
+
   pub goes_on_start : (p : Seat (Option C) (PassView F R N)) → HoldsNone p → GoesOn p p
   goes_on_start p free = record { same = (refl, refl); free = free; fixed = refl; number = refl; made = refl; got = refl }
 
@@ -151,14 +174,35 @@ module _ {C F R N : Type 0} where
     got = b.got ∙ a.got;
   }
 
-  -- a turn that was taken and given back
-  pub turn_goes_on : (stands : F → ℕ → C → List R → Type 0) (f : F) (k k' : ℕ) (p q r : Seat (Option C) (PassView F R N)) (turn : Turn C) (what : R)
-      → IsSameSeat p q → TakesTurn stands f k p q turn → IsSameSeat q r → GivesBack k' what q r → GoesOn p r
-  turn_goes_on stands f k k' p q r turn what s t s' g = record {
-    same = (s'.0 ∙ s.0, s'.1 ∙ s.1);
+  -- a turn that was given back
+  pub given_goes_on : (k : ℕ) (p q : Seat (Option C) (PassView F R N)) (what : R) → IsSameSeat p q → GivesBack k what p q → GoesOn p q
+  given_goes_on k p q what s g = record {
+    same = s;
     free = (g.free, ap (λ (v : PassView F R N). v.holds) g.view);
-    fixed = ap (λ (v : PassView F R N). v.fixed) g.view ∙ ap (λ (v : PassView F R N). v.fixed) t.view;
-    number = ap (λ (v : PassView F R N). v.number) g.view ∙ ap (λ (v : PassView F R N). v.number) t.view;
-    made = ap (λ (v : PassView F R N). v.made) g.view ∙ ap (λ (v : PassView F R N). v.made) t.view;
-    got = ap (λ (v : PassView F R N). v.got) g.view ∙ ap (λ (v : PassView F R N). v.got) t.view;
+    fixed = ap (λ (v : PassView F R N). v.fixed) g.view;
+    number = ap (λ (v : PassView F R N). v.number) g.view;
+    made = ap (λ (v : PassView F R N). v.made) g.view;
+    got = ap (λ (v : PassView F R N). v.got) g.view;
+  }
+
+  -- a turn that was taken, and after which the pass went on
+  pub taken_goes_on : (stands : F → ℕ → C → List R → Type 0) (f : F) (k : ℕ) (p q r : Seat (Option C) (PassView F R N)) (turn : Turn C) → IsSameSeat p q → TakesTurn stands f k p q turn → GoesOn q r → GoesOn p r
+  taken_goes_on stands f k p q r turn s t g = record {
+    same = (g.same.0 ∙ s.0, g.same.1 ∙ s.1);
+    free = g.free;
+    fixed = g.fixed ∙ ap (λ (v : PassView F R N). v.fixed) t.view;
+    number = g.number ∙ ap (λ (v : PassView F R N). v.number) t.view;
+    made = g.made ∙ ap (λ (v : PassView F R N). v.made) t.view;
+    got = g.got ∙ ap (λ (v : PassView F R N). v.got) t.view;
+  }
+
+  -- a note
+  pub noted_goes_on : (p q : Seat (Option C) (PassView F R N)) (what : N) → HoldsNone p → IsSameSeat p q → Notes what p q → GoesOn p q
+  noted_goes_on p q what free s n = record {
+    same = s;
+    free = (n.carries ∙ free.0, ap (λ (v : PassView F R N). v.holds) n.view ∙ free.1);
+    fixed = ap (λ (v : PassView F R N). v.fixed) n.view;
+    number = ap (λ (v : PassView F R N). v.number) n.view;
+    made = ap (λ (v : PassView F R N). v.made) n.view;
+    got = ap (λ (v : PassView F R N). v.got) n.view;
   }

@@ -6,3 +6,4 @@ pub mod Passes
 pub mod Tables
 pub mod Room
 pub mod Lending
+pub mod Objects

@@ -1,12 +1,13 @@
 -- Passes of a table: whose they are, what they hold, and what a call makes of them.
-use Rattle.std.specs.Prelude.{◌≡◌, ℕ, ◌+◌, ◌%◌, ◌<◌, ◌≤◌, ◌^◌, ◌⊎◌, cond, ◌==◌, List, [], ◌∷◌, length, Option, Some, None}
+use Rattle.std.specs.Prelude.{◌≡◌, ◌≢◌, ℕ, ◌+◌, ◌%◌, ◌<◌, ◌≤◌, ◌^◌, ◌⊎◌, cond, ◌==◌, List, [], ◌∷◌, ◌++◌, length, Option, Some, None}
 use mathlib.Core.Option.{some}
 use lib.ListN.{get_elem?}
 use Rattle.atomic_table.specs.Seated.{TableId}
 use Rattle.atomic_table.specs.declared.shared.Seat.{Seat}
 use Rattle.histories.specs.declared.record.Recorded.{Recorded}
 use Rattle.histories.specs.declared.record.LogItem.{LogItem}
-use Rattle.histories.specs.Records.{records, of, given}
+use Rattle.histories.specs.declared.record.LogItem.TheVariants.{Given}
+use Rattle.histories.specs.Records.{recorded, records, of, given}
 use Rattle.turn_table.specs.declared.view.PassView.{PassView}
 use Rattle.turn_table.specs.declared.turn.Turn.{Turn}
 use Rattle.turn_table.specs.Lists.{IsBeginning, list_at}
@@ -87,6 +88,17 @@ module _ {C F R N : Type 0} where
     pub number : q.me.0.number ≡ p.me.0.number
     pub made : q.me.0.made ≡ p.me.0.made
     pub got : q.me.0.got ≡ p.me.0.got
+
+  -- p had one turn of cell k, whose history was h, gave it back with this record, and is now q
+  pub record HadTurn (k : ℕ) (h : List (Recorded R)) (what : R) (p q : Seat (Option C) (PassView F R N)) : Type 0 where
+    pub on : GoesOn p q
+    -- the history began with what the pass had seen, and has the record more, under the number of the pass
+    pub begins : IsBeginning (history_of p k) h
+    pub history : history_of q k ≡ h ++ recorded p.me.0.number what ∷ []
+    -- and so has the pass's own list
+    pub own : own_of q ≡ own_of p ++ Given k what ∷ []
+    -- what the pass has seen of other cells is as it was
+    pub others : (j : ℕ) → j ≢ k → history_of q j ≡ history_of p j
 
   -- the passes of a new table, which has n of them: pass i has number i, and the first one knows how many there are
   abbrev pub AreNewPasses : TableId → F → ℕ → List (Seat (Option C) (PassView F R N)) → Type 0

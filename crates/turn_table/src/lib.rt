@@ -26,3 +26,6 @@ pub use room::Room;
 pub use table::{Pass, Turns};
 pub use turn::Turn;
 pub use view::PassView;
+
+#[cfg(test)]
+mod tests;
