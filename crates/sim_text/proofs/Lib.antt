@@ -1,0 +1,6 @@
+mod Lines
+mod Reading
+pub mod Once
+mod Drafts
+mod Sound
+mod Pieces
