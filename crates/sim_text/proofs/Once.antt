@@ -4,7 +4,7 @@ use Rattle.std.specs.Prelude.{Some, None, Result, Ok, Err, IfOk}
 use Rattle.outside_ports.specs.declared.port.Arrival.{Arrival}
 use Rattle.sim_text.specs.declared.line.Line.{Line}
 use Rattle.sim_text.specs.declared.line.Line.TheVariants.{Host, In, Text, Hex, End, Skipped}
-use Rattle.sim_text.specs.declared.host.HostAddress.{HostAddress}
+use Rattle.host_meaning.specs.declared.settings.HostAddress.{HostAddress}
 use Rattle.sim_text.specs.declared.scenario.Scenario.{Scenario}
 use Rattle.sim_text.specs.declared.scenario.ScenarioFault.{ScenarioFault}
 use Rattle.sim_text.specs.declared.scenario.ScenarioFault.TheVariants as fault

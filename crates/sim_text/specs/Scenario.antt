@@ -8,7 +8,7 @@ use Rattle.numerals.specs.Numerals.{IsNumber, IsSocket}
 use Rattle.sip_words.specs.declared.bytes.Class.TheVariants as class
 use Rattle.sip_words.specs.Bytes.{has}
 use Rattle.sip_words.specs.Splits.{Lacks}
-use Rattle.sim_text.specs.declared.host.HostAddress.{HostAddress}
+use Rattle.host_meaning.specs.declared.settings.HostAddress.{HostAddress}
 use Rattle.sim_text.specs.declared.line.Line.{Line}
 use Rattle.sim_text.specs.declared.line.Line.TheVariants.{Host, In, Text, Hex, End, Skipped}
 use Rattle.sim_text.specs.declared.scenario.Scenario.{Scenario}

@@ -4,7 +4,7 @@ ghost use Rattle.std.specs.Prelude.{◌≡◌, ◌++◌, ◌∷◌, [], None, On
 ghost use Rattle.sim_text.specs.Scenario.{State, GoesOn, Takes, last_moment, nothing_read};
 ghost use Rattle.sim_text.specs.Draft.{IsDraft, so_far};
 
-use crate::host::HostAddress;
+use host_meaning::HostAddress;
 use crate::line::Line;
 use hex::FromHexError;
 use outside_ports::{Addr, Arrival, Bytes};

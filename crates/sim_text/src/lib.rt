@@ -19,7 +19,6 @@
 
 mod datagram;
 mod draft;
-mod host;
 mod item;
 mod line;
 mod scenario;
@@ -27,7 +26,7 @@ mod scenario;
 mod tests;
 mod trace;
 
-pub use host::HostAddress;
+
 pub use item::{Cause, TraceItem};
 pub use scenario::{Scenario, ScenarioFault, read_scenario};
 pub use trace::{push_drop, push_end, push_fail, push_log, push_out};
