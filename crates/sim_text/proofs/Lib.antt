@@ -1,3 +1,4 @@
+mod Names
 mod Lines
 mod Reading
 pub mod Once

@@ -5,16 +5,13 @@ use Rattle.std.specs.Cmp.Lexicographic.{pointwise}
 use Rattle.std.proofs.lemmas.Fmt.{decimal_injective}
 use Rattle.std.proofs.lemmas.Slice.Eq.{strip_prefix_is}
 use Rattle.std.proofs.lemmas.Bool.Decides.{Decides-eqb}
-use Rattle.std.proofs.lemmas.List.Elements.{All-weaker}
-use Rattle.std.proofs.lemmas.List.Sums.{AllPass-from_list_all}
 use Rattle.outside_ports.specs.declared.port.Addr.{Addr}
-use Rattle.sip_words.specs.declared.bytes.Class.TheVariants as class
-use Rattle.sip_words.specs.Bytes.{has}
 use Rattle.sim_text.specs.declared.line.Line.{Line}
 use Rattle.sim_text.specs.declared.line.Line.TheVariants.{Host, In, Text, Hex, End, Skipped}
 use Rattle.numerals.specs.Numerals.{IsNumber, IsSocket}
 use Rattle.sip_words.specs.Splits.{SplitsAt, Lacks}
-use Rattle.sim_text.specs.Scenario.{State, IsHostName, IsHostLine, IsLine, GoesOn, Takes}
+use Rattle.sim_text.specs.Scenario.{State, IsHostLine, IsLine, GoesOn, Takes}
+use Rattle.sim_text.proofs.Names.{name_lacks}
 use Rattle.numerals.proofs.Addresses.{decimal_lacks, only_split, not_split, split_one_way, same_socket}
 
 -- the bytes do not begin with a prefix that was not stripped
@@ -35,14 +32,6 @@ in_parts line rest front back at from whole split h =
 pub in_unsplit : (line rest : List ℕ) (at : ℕ) (from : Addr) → line ≡ codes "in " ++ rest → Lacks 32 rest → IsLine line (In at from) → ⊥
 in_unsplit line rest at from whole lacks h =
     let same : rest ≡ h.0 ++ 32 ∷ h.1 = cc in not_split 32 rest h.0 h.1 lacks same
-
--- the bytes of a host have no SP
-no_blank : (b : ℕ) → has class.Name b ≡ true → b ≢ 32
-unfolding has
-no_blank b h e = let blank : has class.Name 32 ≡ true = subst (λ x. has class.Name x ≡ true) e h in absurd (cc)
-
-name_lacks : (name : List ℕ) → IsHostName name → Lacks 32 name
-name_lacks name h = All-weaker (λ b. has class.Name b ≡ true) (λ b. b ≢ 32) no_blank name (AllPass-from_list_all (has class.Name) name h.each)
 
 -- the name and the address of a line `host` whose front was stripped
 pub host_parts : (line rest front back name : List ℕ) (address : Addr) → line ≡ codes "host " ++ rest → SplitsAt 32 rest front back

@@ -1,13 +1,11 @@
 -- A scenario: the form of each line by itself, and what a line adds to what was read before it.
-use Rattle.std.specs.Prelude.{◌≡◌, ℕ, ◌+◌, ◌<◌, ◌≤◌, ◌⊎◌, true, List, [], ◌∷◌, ◌++◌, Option, None, Some, Result, Ok, Err, length, codes}
-use Rattle.std.specs.List.{list_all}
+use Rattle.std.specs.Prelude.{◌≡◌, ℕ, ◌+◌, ◌≤◌, ◌⊎◌, List, [], ◌∷◌, ◌++◌, Option, None, Some, Result, Ok, Err, length, codes}
 use Rattle.hex.specs.Hex.{decode_of}
 use Rattle.outside_ports.specs.declared.port.Addr.{Addr}
 use Rattle.outside_ports.specs.declared.port.Arrival.{Arrival}
 use Rattle.numerals.specs.Numerals.{IsNumber, IsSocket}
-use Rattle.sip_words.specs.declared.bytes.Class.TheVariants as class
-use Rattle.sip_words.specs.Bytes.{has}
 use Rattle.sip_words.specs.Splits.{Lacks}
+use Rattle.sip_fields.specs.Parts.{IsName}
 use Rattle.host_meaning.specs.declared.settings.HostAddress.{HostAddress}
 use Rattle.sim_text.specs.declared.line.Line.{Line}
 use Rattle.sim_text.specs.declared.line.Line.TheVariants.{Host, In, Text, Hex, End, Skipped}
@@ -17,15 +15,10 @@ use Rattle.sim_text.specs.declared.scenario.ScenarioFault.TheVariants as fault
 
 -- ---- a line by itself
 
--- one or more letters, digits, `-`, `.` and `_`: the bytes of a host in a message
-pub record IsHostName (name : List ℕ) : Type 0 where
-  pub some : 0 < length name
-  pub each : list_all (has class.Name) name ≡ true
-
--- host NAME IP:PORT
+-- host NAME IP:PORT, with a name as a host of a message may have: letters, digits, `-`, `.`, `_`, and no four numbers
 abbrev pub IsHostLine : List ℕ → List ℕ → Addr → Type 0
 IsHostLine bytes name address =
-    (socket : List ℕ) × (bytes ≡ codes "host " ++ (name ++ 32 ∷ socket)) × IsHostName name × IsSocket socket address
+    (socket : List ℕ) × (bytes ≡ codes "host " ++ (name ++ 32 ∷ socket)) × IsName name × IsSocket socket address
 
 -- the bytes, without LF, are this line by itself. Of the line `+` it is looked at where it is taken what its digits say.
 abbrev pub IsLine : List ℕ → Line → Type 0

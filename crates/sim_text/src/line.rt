@@ -1,13 +1,16 @@
 //! A line of a scenario by itself.
 
-ghost use Rattle.std.specs.Prelude.{◌↔◌, ℕ, List, IsTrue, IfSome, IfNone};
+ghost use Rattle.std.specs.Prelude.{◌≡◌, ◌≢◌, ℕ, List, true, false, IfSome, IfNone};
 ghost use Rattle.outside_ports.specs.declared.port.Addr.{Addr as Address};
 ghost use Rattle.sim_text.specs.declared.line.Line.{Line as LineForm};
-ghost use Rattle.sim_text.specs.Scenario.{IsHostName, IsHostLine, IsLine};
+ghost use Rattle.sip_fields.specs.declared.host.Host.TheVariants as kind;
+ghost use Rattle.sip_fields.specs.Host.{host_of};
+ghost use Rattle.sip_fields.specs.Parts.{IsName};
+ghost use Rattle.sim_text.specs.Scenario.{IsHostLine, IsLine};
 
 use numerals::{address, number};
 use outside_ports::Addr;
-use sip_words::{Class, is_all, split_once};
+use sip_words::{Class, split_once, v4_at, word_end};
 
 /// A line by itself. The lines `slots N`, `blocks N`, `failsend N` and `failrecv N` are in no form yet.
 #[derive(Clone, Copy)]
@@ -55,11 +58,27 @@ fn read_host(line: &[u8]) -> Option<Line<'_>>
     Some(Line::Host { name, address })
 }
 
-/// One or more letters, digits, `-`, `.` and `_`.
-fn is_host_name(name: &[u8]) -> bool
-    ensures { IsTrue result ↔ IsHostName name.now }
+/// Whether the bytes are the name of a host: letters, digits, `-`, `.` and `_`, and no four numbers with dots.
+fn is_host_name(bytes: &[u8]) -> bool
+    ensures yes { result ≡ true → IsName bytes.now }
+    ensures no { result ≡ false → IsName bytes.now → ⊥ }
 {
-    !name.is_empty() && is_all(name, Class::Name)
+    match word_end(bytes, 0, Class::Name) {
+        Some(end) => end == bytes.len() && !is_four_numbers(bytes),
+        None => false,
+    }
+}
+
+/// Whether the bytes are four numbers 0 to 255 with dots.
+#[tactic(auto, unfolding(sip_fields::specs::Host::host_of))]
+fn is_four_numbers(bytes: &[u8]) -> bool
+    ensures yes { result ≡ true → host_of bytes.now ≢ kind.Name }
+    ensures no { result ≡ false → host_of bytes.now ≡ kind.Name }
+{
+    match v4_at(bytes, 0) {
+        Some((_, end)) => end == bytes.len(),
+        None => false,
+    }
 }
 
 /// The line `end MS`.

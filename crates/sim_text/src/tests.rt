@@ -110,13 +110,13 @@ fn scenarios_say_what_their_lines_say(rt: HostRuntime) {
             end: 0,
         },
         Case {
-            shows: "hosts in order, one of them twice, one as four numbers",
-            text: b"host pbx.example.com 192.0.2.1:5060\n#\nhost a-B_9. 203.0.113.7:65535\nhost pbx.example.com 203.0.113.7:65535\nhost 10.0.0.1 192.0.2.1:5060\nin 1 192.0.2.1:5060\nend 1\n",
+            shows: "hosts in order, one of them twice, one nearly four numbers",
+            text: b"host pbx.example.com 192.0.2.1:5060\n#\nhost a-B_9. 203.0.113.7:65535\nhost pbx.example.com 203.0.113.7:65535\nhost 1.2.3.256 192.0.2.1:5060\nin 1 192.0.2.1:5060\nend 1\n",
             hosts: &[
                 (b"pbx.example.com", CALLER),
                 (b"a-B_9.", OTHER),
                 (b"pbx.example.com", OTHER),
-                (b"10.0.0.1", CALLER),
+                (b"1.2.3.256", CALLER),
             ],
             arrivals: &[(1, CALLER, b"")],
             end: 1,
@@ -137,7 +137,7 @@ fn is_wrong_at(alloc: Global, text: &[u8], number: u64) -> bool {
 
 #[test]
 fn the_first_line_in_no_form_is_told(rt: HostRuntime) {
-    let cases: [(&str, &[u8], u64); 49] = [
+    let cases: [(&str, &[u8], u64); 51] = [
         ("no line", b"", 1),
         ("no end", b"#\n\n", 3),
         ("no LF behind the last line", b"end 0", 1),
@@ -180,6 +180,8 @@ fn the_first_line_in_no_form_is_told(rt: HostRuntime) {
         ("a host without a name", b"host  1.2.3.4:5\nend 0\n", 1),
         ("a host without an address", b"host a\nend 0\n", 1),
         ("a host with a byte of no name", b"host a/b 1.2.3.4:5\nend 0\n", 1),
+        ("a host that is four numbers", b"host 10.0.0.1 1.2.3.4:5\nend 0\n", 1),
+        ("four numbers with leading zeros", b"host 010.0.0.001 1.2.3.4:5\nend 0\n", 1),
         ("a host of two names", b"host a b 1.2.3.4:5\nend 0\n", 1),
         ("a host with port 0", b"host a 1.2.3.4:0\nend 0\n", 1),
         ("a word that begins as host does", b"hosts a 1.2.3.4:5\nend 0\n", 1),

@@ -1,7 +1,8 @@
 use Rattle.std.specs.Prelude.{codes}
-use Rattle.std.proofs.Common.{◌++◌, ◌∷◌, ℕ, List, sym, subst}
+use Rattle.std.proofs.Common.{◌≡◌, false, ◌++◌, ◌∷◌, ℕ, List, sym, subst}
 use Rattle.outside_ports.specs.declared.port.Addr.{Addr}
-use Rattle.sim_text.specs.Scenario.{IsHostName, IsHostLine}
+use Rattle.sip_fields.specs.Parts.{IsName}
+use Rattle.sim_text.specs.Scenario.{IsHostLine}
 use Rattle.sim_text.proofs.Lines.{not_stripped, stripped, host_parts, host_unsplit}
 use Rattle.numerals.proofs.Addresses.{where_none}
 use Rattle.sim_text.proofs.line.read_host.Goals as goal
@@ -23,7 +24,7 @@ returns-then-not-is_host_name-clause-none c = λ name address h.
     let rest = c.in_ok-strip_prefix.field-0 in
     let whole = stripped c.args.line.now (codes "host ") rest c.in_ok-strip_prefix.ensures.cases in
     let parts = host_parts c.args.line.now rest.now c.in_ok-name.name.now c.in_ok-name.word.now name address whole c.in_ok-name.ensures.found h in
-    let yes = c.if-not-is_host_name.ensures.1 (subst IsHostName (sym parts.0) h.2) in absurd (cc)
+    let other : c.is_host_name.result ≡ false = cc in c.is_host_name.ensures.no other (subst IsName (sym parts.0) h.2)
 
 pub returns-in_err-address-clause-none : goal.returns-in_err-address-clause-none
 returns-in_err-address-clause-none c =
