@@ -8,23 +8,23 @@ use outside_ports::{Addr, Bytes};
 /// Why a datagram was dropped.
 #[derive(Clone, Copy, Debug, PartialEq, Eq)]
 pub enum Cause {
-    /// It has no bytes but CR and LF (RFC 5626, section 4.4.1).
+    /// It is empty, or holds only CR and LF.
     Keepalive,
-    /// It is no message, and no response can be made to it.
+    /// It is malformed, doesn't begin as a response does, and no response can be made to it.
     NotSip,
-    /// It is a malformed response.
+    /// It is malformed, begins as a response does, and no response can be made to it.
     BadReply,
-    /// It is a response, and no transaction waits for it.
+    /// It is a response that belongs to no branch of a transaction.
     StrayReply,
     /// It is a response to a transaction that has ended.
     Ended,
-    /// The script dropped it.
+    /// The script's block ended by `drop`, and nothing was sent.
     ScriptDrop,
-    /// The script's run ended, and nothing was sent.
+    /// The script's block ended otherwise, and nothing was sent.
     ScriptSilent,
-    /// It is an ACK without a transaction, and there is no address to send it to.
+    /// It is an ACK without a transaction, and `t_relay()` didn't send it on.
     AckUnroutable,
-    /// What was to be sent is too long.
+    /// The response that the proxy makes by itself would have more than 8,192 bytes.
     TooLong,
 }
 
