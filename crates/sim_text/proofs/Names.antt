@@ -1,5 +1,5 @@
 -- The name of a host: its bytes, and that it is the name that the grammar of a message reads.
-use Rattle.std.proofs.Common.{◌≡◌, ◌≢◌, ℕ, ◌+◌, true, false, List, [], ◌∷◌, ◌++◌, length, drop, take, refl, sym, ap, ◌∙◌, subst, arith, append-nil, Option, Some, None}
+use Rattle.std.proofs.Common.{◌≡◌, ◌≢◌, ℕ, ◌+◌, true, List, [], ◌++◌, length, drop, refl, sym, ap, ◌∙◌, subst, arith, append-nil, Some}
 use Rattle.std.specs.Prelude.{slice_range}
 use Rattle.std.proofs.lemmas.List.Elements.{All-weaker, All-from_recursion}
 use Rattle.std.proofs.lemmas.List.{drop_all, take_all}
@@ -11,7 +11,7 @@ use Rattle.sip_words.specs.Splits.{Lacks}
 use Rattle.sip_words.specs.Words.{word_end}
 use Rattle.sip_words.proofs.Steps.{bind_some}
 use Rattle.sip_fields.specs.declared.host.Host.{Host}
-use Rattle.sip_fields.specs.declared.host.Host.TheVariants.{Name, V4}
+use Rattle.sip_fields.specs.declared.host.Host.TheVariants.{Name}
 use Rattle.sip_fields.specs.Host.{host_of, host_at}
 use Rattle.sip_fields.specs.Parts.{HostTree, Numbers, Named, host, IsName, IsHost, host_value}
 use Rattle.sip_fields.proofs.Hosts.{host_takes, host_again}
@@ -37,8 +37,10 @@ is_name : (w : List ℕ) (t : HostTree) → host_at w 0 ≡ Some (Name, length w
 is_name w (Named v) at e is = subst IsName (sym e) is
 is_name w (Numbers a b c d) at e is =
     let again = host_again w 0 (Numbers a b c d) [] (e ∙ sym (append-nil (host (Numbers a b c d)))) is tt in
-    let both : Some (Name, length w) ≡ Some (host_value (Numbers a b c d), 0 + length (host (Numbers a b c d))) = sym at ∙ again in
-    let same : Name ≡ host_value (Numbers a b c d) = ap (λ (x : Host × ℕ). x.0) (same_Some _ _ both) in absurd (cc)
+    let name : Host × ℕ = (Name, length w) in
+    let numbers : Host × ℕ = (host_value (Numbers a b c d), 0 + length (host (Numbers a b c d))) in
+    let both : Some name ≡ Some numbers = sym at ∙ again in
+    let same : Name ≡ host_value (Numbers a b c d) = ap (λ (x : Host × ℕ). x.0) (same_Some name numbers both) in absurd (cc)
 
 pub to_name : (w : List ℕ) → word_end class.Name w 0 ≡ Some (length w) → host_of w ≡ Name → IsName w
 to_name w word name =

@@ -4,9 +4,9 @@ ghost use Rattle.std.specs.Prelude.{◌≡◌, ◌++◌, ◌∷◌, [], None, On
 ghost use Rattle.sim_text.specs.Scenario.{State, GoesOn, Takes, last_moment, nothing_read};
 ghost use Rattle.sim_text.specs.Draft.{IsDraft, so_far};
 
-use host_meaning::HostAddress;
 use crate::line::Line;
 use hex::FromHexError;
+use host_meaning::HostAddress;
 use outside_ports::{Addr, Arrival, Bytes};
 use pv_values::Text;
 use std::alloc::{AllocError as NoMemory, Global};

@@ -26,7 +26,6 @@ mod scenario;
 mod tests;
 mod trace;
 
-
 pub use item::{Cause, TraceItem};
 pub use scenario::{Scenario, ScenarioFault, read_scenario};
 pub use trace::{push_drop, push_end, push_fail, push_log, push_out};

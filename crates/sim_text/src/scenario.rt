@@ -5,8 +5,8 @@ ghost use Rattle.outside_ports.specs.MemPort.{IsInOrder, IsShort};
 ghost use Rattle.sim_text.specs.Scenario.{Contents, IsScenario, IsFirstWrong, GivesScenario, GivesLine, contents_of};
 
 use crate::draft::{Draft, LineFault};
-use host_meaning::HostAddress;
 use crate::line::read_line;
+use host_meaning::HostAddress;
 use outside_ports::Arrival;
 use sip_words::split_once;
 use std::alloc::Global;

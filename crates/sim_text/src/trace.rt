@@ -29,12 +29,7 @@ pub fn push_out(
 }
 
 /// Writes `drop MS CAUSE`.
-pub fn push_drop(
-    alloc: Global,
-    trace: &mut Vec<u8>,
-    at: u64,
-    cause: Cause,
-) -> Result<(), NoMemory>
+pub fn push_drop(alloc: Global, trace: &mut Vec<u8>, at: u64, cause: Cause) -> Result<(), NoMemory>
     ensures { OnOk result (trace.new.items ≡ trace.old.items ++ item_text (TraceItem.Drop at cause)) }
 {
     push_head(alloc, trace, b"drop", at)?;
@@ -48,7 +43,10 @@ pub fn push_log(alloc: Global, trace: &mut Vec<u8>, at: u64, text: &[u8]) -> Res
     ensures { OnOk result (trace.new.items ≡ trace.old.items ++ item_text (TraceItem.Log at text.now)) }
 {
     push_head(alloc, trace, b"log", at)?;
-    let shown = text.iter().map(|b| shown_byte(*b)).collect::<Vec<u8>>(alloc)?;
+    let shown = text
+        .iter()
+        .map(|b| shown_byte(*b))
+        .collect::<Vec<u8>>(alloc)?;
     trace.extend_from_slice(shown.as_slice())?;
     trace.push(b'\n')?;
     Ok(())
