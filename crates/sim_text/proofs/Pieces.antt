@@ -35,7 +35,7 @@ nonempty (suc n) h = omega arith
 pub empty : (n : ℕ) → (n == 0) ≡ true → n ≡ 0
 empty n h = eqb-true n 0 h
 
--- a datagram is its first piece and the pieces behind it
+-- a datagram is its first piece and the pieces after it
 first_piece : (xs : List ℕ) → 0 < length xs → pieces xs ≡ take (first_len xs) xs ∷ pieces (drop (first_len xs) xs)
 unfolding pieces first_len
 first_piece [] h = absurd (omega arith)
@@ -48,7 +48,7 @@ first_piece (a ∷ b ∷ rest) h = by_cases (first_len (b ∷ rest)) (first_piec
     by_cases n before true = refl
     by_cases n before false = rw before refl
 
--- what is shown of a datagram: its first piece, and what is behind it
+-- what is shown of a datagram: its first piece, and what is after it
 pub shown_first : (xs : List ℕ) → 0 < length xs → shown_datagram xs ≡ shown_piece (take (first_len xs) xs) ++ shown_datagram (drop (first_len xs) xs)
 shown_first xs h = ap (λ (ps : List (List ℕ)). flat_map shown_piece ps) (first_piece xs h)
 

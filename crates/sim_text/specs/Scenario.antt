@@ -55,7 +55,7 @@ GoesOn old more new =
     × (new ≡ record old { arrivals = before ++ record a { bytes = a.bytes ++ more } ∷ [] })
 
 -- the line may stand where `old` was read, and then `new` was read. Hosts stand before the first datagram; moments don't
--- fall; `+` has pairs of hexadecimal digits; the end is not later than a day; behind it stand only lines that are skipped.
+-- fall; `+` has pairs of hexadecimal digits; the end is not later than a day; after it stand only lines that are skipped.
 abbrev pub Takes : State → Line → State → Type 0
 Takes old Skipped new = new ≡ old
 Takes old (Host name address) new =
@@ -102,7 +102,7 @@ NothingFits state [] = state.end ≡ None
 NothingFits state (b ∷ bs) =
     (line more : List ℕ) (new : State) → Lacks 10 line → b ∷ bs ≡ line ++ 10 ∷ more → Fits state line new → ⊥
 
--- the line of this number, from 1, is the first in no form
+-- the line of this number, from 1, is the first malformed one
 abbrev pub IsFirstWrong : List ℕ → ℕ → Type 0
 IsFirstWrong text number =
     (lines : List (List ℕ)) × (rest : List ℕ) × (state : State) × (text ≡ lines_text lines ++ rest)
@@ -114,13 +114,13 @@ IsFirstWrong text number =
 abbrev pub contents_of : Scenario → Contents
 contents_of scenario = record { hosts = scenario.hosts.items; arrivals = scenario.arrivals.items; end = scenario.end }
 
--- a scenario that says this was read, or memory is wanting
+-- a scenario that says this was read, or it is out of memory
 abbrev pub GivesScenario : Contents → Result Scenario ScenarioFault → Type 0
 GivesScenario said (Ok scenario) = contents_of scenario ≡ said
 GivesScenario said (Err (fault.Line number)) = ⊥
 GivesScenario said (Err fault.NoMemory) = Unit {0}
 
--- this line was answered, or memory is wanting
+-- this line was answered, or it is out of memory
 abbrev pub GivesLine : ℕ → Result Scenario ScenarioFault → Type 0
 GivesLine wrong (Ok scenario) = ⊥
 GivesLine wrong (Err (fault.Line number)) = number ≡ wrong

@@ -15,7 +15,7 @@ use Rattle.sim_text.specs.declared.item.TraceItem.TheVariants.{Out, Drop, Log, F
 abbrev pub is_crlf : ℕ → ℕ → Bool
 is_crlf a b = (a == 13) && (b == 10)
 
--- a datagram, cut behind each CRLF
+-- a datagram, cut after each CRLF
 unfoldable pub pieces : List ℕ → List (List ℕ)
 pieces [] = []
 pieces (a ∷ []) = (a ∷ []) ∷ []

@@ -1,4 +1,4 @@
-//! A datagram as a trace shows it: cut behind each CRLF, each piece as text or in hexadecimal.
+//! A datagram as a trace shows it: cut after each CRLF, each piece as text or in hexadecimal.
 
 ghost use Rattle.std.specs.Prelude.{◌≡◌, ◌<◌, ◌≤◌, ◌++◌, length, OnOk};
 ghost use Rattle.std.specs.List.{list_all};
@@ -7,7 +7,7 @@ ghost use Rattle.sim_text.specs.Pieces.{first_len, crlf_at};
 
 use std::alloc::{AllocError as NoMemory, Global};
 
-/// Writes a datagram, cut behind each CRLF.
+/// Writes a datagram, cut after each CRLF.
 pub fn push_datagram(alloc: Global, trace: &mut Vec<u8>, datagram: &[u8]) -> Result<(), NoMemory>
     ensures { OnOk result (trace.new.items ≡ trace.old.items ++ shown_datagram datagram.now) }
 {
@@ -28,7 +28,7 @@ fn has_crlf(bytes: &[u8], at: usize) -> bool
     matches!(&bytes[at..], [b'\r', b'\n', ..])
 }
 
-/// The length of the first piece, which ends behind a CRLF or with the datagram.
+/// The length of the first piece, which ends after a CRLF or with the datagram.
 #[tactic(auto, using(crate::proofs::Pieces::goes, crate::proofs::Pieces::stops, crate::proofs::Pieces::ends))]
 fn first_len(datagram: &[u8]) -> usize
     ensures value { result ≡ first_len datagram.now }

@@ -37,7 +37,7 @@ pub struct Draft {
 
 /// Why a line is not taken.
 pub enum LineFault {
-    NoForm,
+    Malformed,
     NoMemory,
 }
 
@@ -70,7 +70,7 @@ impl Draft {
         requires draft { IsDraft self.old }
         ensures taken { OnOk result (Takes (so_far self.old) line.entry (so_far self.new)) }
         ensures draft { OnOk result (IsDraft self.new) }
-        ensures no_form { result ≡ Err LineFault.NoForm → (new : State) → Takes (so_far self.old) line.entry new → ⊥ }
+        ensures malformed { result ≡ Err LineFault.Malformed → (new : State) → Takes (so_far self.old) line.entry new → ⊥ }
     {
         match line {
             Line::Skipped => Ok(()),
@@ -87,10 +87,10 @@ impl Draft {
         requires draft { IsDraft self.old }
         ensures taken { OnOk result (Takes (so_far self.old) (Line.Host name.entry address) (so_far self.new)) }
         ensures draft { OnOk result (IsDraft self.new) }
-        ensures no_form { result ≡ Err LineFault.NoForm → (new : State) → Takes (so_far self.old) (Line.Host name.entry address) new → ⊥ }
+        ensures malformed { result ≡ Err LineFault.Malformed → (new : State) → Takes (so_far self.old) (Line.Host name.entry address) new → ⊥ }
     {
         if self.pending.is_some() || self.end.is_some() {
-            return Err(LineFault::NoForm);
+            return Err(LineFault::Malformed);
         }
         self.add_host(alloc, name, address)?;
         Ok(())
@@ -140,10 +140,10 @@ impl Draft {
         requires draft { IsDraft self.old }
         ensures taken { OnOk result (Takes (so_far self.old) (Line.In at from) (so_far self.new)) }
         ensures draft { OnOk result (IsDraft self.new) }
-        ensures no_form { result ≡ Err LineFault.NoForm → (new : State) → Takes (so_far self.old) (Line.In at from) new → ⊥ }
+        ensures malformed { result ≡ Err LineFault.Malformed → (new : State) → Takes (so_far self.old) (Line.In at from) new → ⊥ }
     {
         if self.end.is_some() || at < self.last_moment() {
-            return Err(LineFault::NoForm);
+            return Err(LineFault::Malformed);
         }
         self.close()?;
         let bytes = Vec::new(alloc);
@@ -151,19 +151,19 @@ impl Draft {
         Ok(())
     }
 
-    /// Adds these bytes, one part behind the other, to the pending datagram.
+    /// Adds these bytes, one part after the other, to the pending datagram.
     fn extend(&mut self, front: &[u8], back: &[u8]) -> Result<(), LineFault>
         requires draft { IsDraft self.old }
         ensures taken { OnOk result (GoesOn (so_far self.old) (front.now ++ back.now) (so_far self.new)) }
         ensures draft { OnOk result (IsDraft self.new) }
-        ensures no_form { result ≡ Err LineFault.NoForm → (new : State) → GoesOn (so_far self.old) (front.now ++ back.now) new → ⊥ }
+        ensures malformed { result ≡ Err LineFault.Malformed → (new : State) → GoesOn (so_far self.old) (front.now ++ back.now) new → ⊥ }
     {
         let Some(mut pending) = self.pending.take() else {
-            return Err(LineFault::NoForm);
+            return Err(LineFault::Malformed);
         };
         let len = pending.bytes.len().saturating_add(front.len());
         if LONGEST_DATAGRAM < len.saturating_add(back.len()) {
-            return Err(LineFault::NoForm);
+            return Err(LineFault::Malformed);
         }
         pending.bytes.extend_from_slice(front)?;
         pending.bytes.extend_from_slice(back)?;
@@ -176,12 +176,12 @@ impl Draft {
         requires draft { IsDraft self.old }
         ensures taken { OnOk result (Takes (so_far self.old) (Line.Hex digits.entry) (so_far self.new)) }
         ensures draft { OnOk result (IsDraft self.new) }
-        ensures no_form { result ≡ Err LineFault.NoForm → (new : State) → Takes (so_far self.old) (Line.Hex digits.entry) new → ⊥ }
+        ensures malformed { result ≡ Err LineFault.Malformed → (new : State) → Takes (so_far self.old) (Line.Hex digits.entry) new → ⊥ }
     {
         match hex::decode(alloc, digits) {
             Ok(bytes) => self.extend(bytes.as_slice(), &[]),
             Err(FromHexError::OutOfMemory) => Err(LineFault::NoMemory),
-            Err(_) => Err(LineFault::NoForm),
+            Err(_) => Err(LineFault::Malformed),
         }
     }
 
@@ -190,10 +190,10 @@ impl Draft {
         requires draft { IsDraft self.old }
         ensures taken { OnOk result (Takes (so_far self.old) (Line.End at) (so_far self.new)) }
         ensures draft { OnOk result (IsDraft self.new) }
-        ensures no_form { result ≡ Err LineFault.NoForm → (new : State) → Takes (so_far self.old) (Line.End at) new → ⊥ }
+        ensures malformed { result ≡ Err LineFault.Malformed → (new : State) → Takes (so_far self.old) (Line.End at) new → ⊥ }
     {
         if self.end.is_some() || at < self.last_moment() || LAST_END < at {
-            return Err(LineFault::NoForm);
+            return Err(LineFault::Malformed);
         }
         self.close()?;
         self.end = Some(at);

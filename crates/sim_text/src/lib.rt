@@ -1,7 +1,7 @@
 //! The texts of the command `sim`: the scenario that it reads, and the trace that it prints.
 //!
 //! A scenario has lines, each with its LF: addresses of hosts (`host`), then the datagrams that arrive (`in`, `|text`,
-//! `+hex`), then the moment of the end (`end`). [`read_scenario`] reads it, or tells the first line that is in no form.
+//! `+hex`), then the moment of the end (`end`). [`read_scenario`] reads it, or tells the first line that is malformed.
 //!
 //! A trace has one item after another, [`TraceItem`], and a last line. [`push_out`], [`push_drop`], [`push_log`] and
 //! [`push_fail`] each append the text of one item, [`push_end`] that of the last line; so whoever watches a run writes

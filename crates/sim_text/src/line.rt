@@ -12,7 +12,7 @@ use numerals::{address, number};
 use outside_ports::Addr;
 use sip_words::{Class, split_once, v4_at, word_end};
 
-/// A line by itself. The lines `slots N`, `blocks N`, `failsend N` and `failrecv N` are in no form yet.
+/// A line by itself. The lines `slots N`, `blocks N`, `failsend N` and `failrecv N` are malformed so far.
 #[derive(Clone, Copy)]
 pub enum Line<'a> {
     /// `host NAME IP:PORT`
@@ -29,7 +29,7 @@ pub enum Line<'a> {
     Skipped,
 }
 
-/// The line that these bytes are, without LF; none where they are in no form. What the digits of a line `+` say is
+/// The line that these bytes are, without LF; none where they are malformed. What the digits of a line `+` say is
 /// looked at where it is taken.
 pub fn read_line(line: &[u8]) -> Option<Line<'_>>
     ensures found { IfSome result (IsLine line.now) }

@@ -25,15 +25,15 @@ pub struct Scenario {
 /// Why a text is no scenario.
 #[derive(Clone, Copy, Debug, PartialEq, Eq)]
 pub enum ScenarioFault {
-    /// The number, from 1, of the first line that is in no form.
+    /// The number, from 1, of the first line that is malformed.
     Line(u64),
     NoMemory,
 }
 
 /// Reads a scenario, whose lines each end with LF.
 ///
-/// The text is a scenario, or one of its lines is the first in no form, never both; and that is what is answered. Either
-/// may be want of memory in its place.
+/// The text is a scenario, or one of its lines is the first malformed one, never both; and that is what is answered. In the
+/// place of either it may be out of memory.
 pub fn read_scenario(alloc: Global, text: &[u8]) -> Result<Scenario, ScenarioFault>
     ensures read { IfOk result (λ s. IsScenario text.now (contents_of s)) }
     ensures wrong { (number : ℕ) → result ≡ Err (ScenarioFault.Line number) → IsFirstWrong text.now number }
@@ -48,7 +48,7 @@ pub fn read_scenario(alloc: Global, text: &[u8]) -> Result<Scenario, ScenarioFau
     read_lines(alloc, text)
 }
 
-/// Reads the lines one after another, up to the end or the first that is in no form.
+/// Reads the lines one after another, up to the end or the first that is malformed.
 fn read_lines(alloc: Global, text: &[u8]) -> Result<Scenario, ScenarioFault>
     ensures read { IfOk result (λ s. IsScenario text.now (contents_of s)) }
     ensures wrong { (number : ℕ) → result ≡ Err (ScenarioFault.Line number) → IsFirstWrong text.now number }
@@ -65,7 +65,7 @@ fn read_lines(alloc: Global, text: &[u8]) -> Result<Scenario, ScenarioFault>
         };
         match draft.take(alloc, line) {
             Ok(()) => {}
-            Err(LineFault::NoForm) => return Err(ScenarioFault::Line(number)),
+            Err(LineFault::Malformed) => return Err(ScenarioFault::Line(number)),
             Err(LineFault::NoMemory) => return Err(ScenarioFault::NoMemory),
         }
         rest = more;

@@ -1,4 +1,4 @@
-//! Scenarios that read, lines in no form, and each item of a trace. Expected texts are worked out by hand.
+//! Scenarios that read, malformed lines, and each item of a trace. Expected texts are worked out by hand.
 
 use crate::{
     Cause, Scenario, ScenarioFault, push_drop, push_end, push_fail, push_log, push_out,
@@ -127,7 +127,7 @@ fn scenarios_say_what_their_lines_say(rt: HostRuntime) {
     }
 }
 
-/// Whether this line of the text is the first in no form.
+/// Whether this line of the text is the first malformed one.
 fn is_wrong_at(alloc: Global, text: &[u8], number: u64) -> bool {
     match read_scenario(alloc, text) {
         Ok(_) => false,
@@ -136,18 +136,18 @@ fn is_wrong_at(alloc: Global, text: &[u8], number: u64) -> bool {
 }
 
 #[test]
-fn the_first_line_in_no_form_is_told(rt: HostRuntime) {
+fn the_first_line_in_malformed_is_told(rt: HostRuntime) {
     let cases: [(&str, &[u8], u64); 51] = [
         ("no line", b"", 1),
         ("no end", b"#\n\n", 3),
-        ("no LF behind the last line", b"end 0", 1),
+        ("no LF after the last line", b"end 0", 1),
         ("an unknown word", b"\ngo\nend 0\n", 2),
         ("a word in capitals", b"END 0\n", 1),
         ("a blank before the line", b" end 0\n", 1),
         ("CR before LF", b"end 0\r\n", 1),
         ("no moment of the end", b"end\n", 1),
         ("an empty moment of the end", b"end \n", 1),
-        ("a word behind the end", b"end 0 0\n", 1),
+        ("a word after the end", b"end 0 0\n", 1),
         ("a leading zero", b"end 00\n", 1),
         ("a sign", b"end +1\n", 1),
         (
@@ -173,7 +173,7 @@ fn the_first_line_in_no_form_is_told(rt: HostRuntime) {
             2,
         ),
         ("two blanks", b"in  1 1.2.3.4:5\nend 1\n", 1),
-        ("a blank behind the address", b"in 1 1.2.3.4:5 \nend 1\n", 1),
+        ("a blank after the address", b"in 1 1.2.3.4:5 \nend 1\n", 1),
         ("no address", b"in 1\nend 1\n", 1),
         ("port 0", b"in 0 1.2.3.4:0\nend 0\n", 1),
         ("port 65536", b"in 0 1.2.3.4:65536\nend 0\n", 1),
@@ -187,13 +187,13 @@ fn the_first_line_in_no_form_is_told(rt: HostRuntime) {
         ("text before a datagram", b"|x\nend 0\n", 1),
         ("hexadecimal before a datagram", b"+00\nend 0\n", 1),
         ("no bytes before a datagram", b"+\nend 0\n", 1),
-        ("text behind the end", b"in 0 1.2.3.4:5\nend 0\n|x\n", 3),
+        ("text after the end", b"in 0 1.2.3.4:5\nend 0\n|x\n", 3),
         (
-            "hexadecimal behind the end",
+            "hexadecimal after the end",
             b"in 0 1.2.3.4:5\nend 0\n+\n",
             3,
         ),
-        ("a datagram behind the end", b"end 0\nin 0 1.2.3.4:5\n", 2),
+        ("a datagram after the end", b"end 0\nin 0 1.2.3.4:5\n", 2),
         ("a second end", b"end 0\n\n#\nend 0\n", 4),
         ("an odd digit", b"in 0 1.2.3.4:5\n+0\nend 0\n", 2),
         ("three digits", b"in 0 1.2.3.4:5\n+0d0\nend 0\n", 2),
@@ -204,11 +204,11 @@ fn the_first_line_in_no_form_is_told(rt: HostRuntime) {
             2,
         ),
         (
-            "a host behind a datagram",
+            "a host after a datagram",
             b"in 0 1.2.3.4:5\nhost a 1.2.3.4:5\nend 0\n",
             2,
         ),
-        ("a host behind the end", b"end 0\nhost a 1.2.3.4:5\n", 2),
+        ("a host after the end", b"end 0\nhost a 1.2.3.4:5\n", 2),
         ("a host without a name", b"host  1.2.3.4:5\nend 0\n", 1),
         ("a host without an address", b"host a\nend 0\n", 1),
         (
@@ -342,7 +342,7 @@ fn logs_show_a_question_mark_for_other_bytes(rt: HostRuntime) -> Result<(), Fail
 }
 
 #[test]
-fn items_stand_one_behind_the_other(rt: HostRuntime) -> Result<(), Fail> {
+fn items_stand_one_after_the_other(rt: HostRuntime) -> Result<(), Fail> {
     let alloc = rt.alloc();
     let mut trace = Vec::new(alloc);
     push_out(alloc, &mut trace, 1, CALLER, b"hi\r\n")?;

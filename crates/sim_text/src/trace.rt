@@ -73,7 +73,7 @@ pub fn push_end(alloc: Global, trace: &mut Vec<u8>, at: u64, live: u64) -> Resul
     Ok(())
 }
 
-/// Writes the word, the moment, and a SP behind each.
+/// Writes the word, the moment, and a SP after each.
 fn push_head(alloc: Global, trace: &mut Vec<u8>, word: &[u8], at: u64) -> Result<(), NoMemory>
     ensures { OnOk result (trace.new.items ≡ trace.old.items ++ headed word.now at) }
 {

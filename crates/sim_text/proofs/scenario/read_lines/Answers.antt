@@ -29,11 +29,11 @@ returns-in_default-read_line-clause-wrong c = λ number e.
     (wrong_at c.args.text.now c.loop-line.rest.now line c.in-Some.more.now (so_far c.loop-line.draft) c.loop-line.number c.loop-line.invariant.3
     c.in-Some.ensures.found (λ new. no_line line (so_far c.loop-line.draft) new c.in_default-read_line.ensures.none))
 
-pub returns-in-Err-NoForm-clause-wrong : goal.returns-in-Err-NoForm-clause-wrong
-returns-in-Err-NoForm-clause-wrong c = λ number e.
+pub returns-in-Err-Malformed-clause-wrong : goal.returns-in-Err-Malformed-clause-wrong
+returns-in-Err-Malformed-clause-wrong c = λ number e.
     let same : c.loop-line.number ≡ number = cc in
     let line = c.in-Some.line.now in
-    let none = c.in-Err-NoForm.ensures.no_form (ap Err c.in-Err-NoForm.field-0-is) in
+    let none = c.in-Err-Malformed.ensures.malformed (ap Err c.in-Err-Malformed.field-0-is) in
     subst (IsFirstWrong c.args.text.now) same
     (wrong_at c.args.text.now c.loop-line.rest.now line c.in-Some.more.now (so_far c.loop-line.draft) c.loop-line.number c.loop-line.invariant.3
     c.in-Some.ensures.found (λ new. not_taken line c.in-Some-read_line.line (so_far c.loop-line.draft) new c.in-Some-read_line.ensures.found none))
