@@ -8,9 +8,9 @@ use Rattle.proxy_top.specs.declared.top.Ending.{Ending}
 use Rattle.proxy_top.specs.declared.top.Ending.TheVariants as outcome
 use Rattle.proxy_top.specs.Commands.{check_words, sim_words}
 use Rattle.proxy_top.specs.Script.{IsScript}
-use Rattle.proxy_top.specs.Scenario.{IsScenario, IsFirstWrong}
+use Rattle.sim_text.specs.Scenario.{IsScenario, IsFirstWrong}
+use Rattle.sim_text.proofs.Once.{scenario_not_wrong}
 use Rattle.proxy_top.specs.Endings.{ReadsScript, IsEnding, IsRun, IsRefusedByCommand, IsRefusedBySim, IsWrongLine, IsEnd, IsCalm, Gives, status_of, Tells, IsReady, IsMalformedScript, IsMalformedScenario, place}
-use Rattle.proxy_top.proofs.Once.{scenario_not_wrong}
 
 -- no words are both commands
 pub two_commands : (words : List (List ℕ)) (checked script scenario : List ℕ) → words ≡ check_words checked → words ≡ sim_words script scenario → ⊥
@@ -69,7 +69,7 @@ not_wrong : (words : List (List ℕ)) (folder : Option Folder) (r : IsReady word
 not_wrong words folder r line w =
     let same = same_words r.script r.scenario w.script w.scenario (sym r.words_are ∙ w.words_are) in
     elim w.wrong [
-      | inl h ↦ scenario_not_wrong r.lines r.arrivals r.end line r.reads
+      | inl h ↦ scenario_not_wrong r.lines r.said line r.reads
           (subst (λ x. IsFirstWrong x line) (held_once folder r.scenario w.scenario 4194304 r.lines h.0 r.told same.1 h.1) h.2)
       | inr h ↦ not_longer folder r.scenario w.scenario 4194304 r.lines r.told same.1 h.1
     ]
@@ -79,8 +79,8 @@ not_done : (words : List (List ℕ)) (folder : Option Folder) (line : ℕ) (r : 
     → IsRun words folder printed → ⊥
 not_done words folder line r printed d =
     let same = same_words r.script r.scenario d.script d.scenario (sym r.words_are ∙ d.words_are) in
-    scenario_not_wrong r.lines d.arrivals d.end line
-    (subst (λ x. IsScenario x d.arrivals d.end) (held_once folder r.scenario d.scenario 4194304 r.lines d.text r.told same.1 d.held) d.reads) r.wrong
+    scenario_not_wrong r.lines d.said line
+    (subst (λ x. IsScenario x d.said) (held_once folder r.scenario d.scenario 4194304 r.lines d.text r.told same.1 d.held) d.reads) r.wrong
 
 ready_in : (words : List (List ℕ)) (folder : Option Folder) (f g : List ℕ → ℕ) (status : ℕ) (ending : Ending) → IsReady words folder → IsCalm f g
     → status ≡ status_of ending → IsEnding words folder f g ending → status ≡ 0

@@ -1,9 +1,3 @@
-mod Lines
-mod Reading
-pub mod Once
-mod Drafts
-mod Sound
-mod Pieces
 mod Run
 mod Scripts
 mod Items

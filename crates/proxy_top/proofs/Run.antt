@@ -4,11 +4,12 @@ use Rattle.outside_ports.specs.declared.port.Arrival.{Arrival}
 use Rattle.outside_ports.specs.MemPort.{IsInOrder, PortState, next_moment}
 use Rattle.proxy_top.specs.declared.script.AnswerAll.{AnswerAll}
 use Rattle.proxy_top.specs.Handled.{Handled, AtTheEnd}
-use Rattle.proxy_top.specs.Solo.{solo, entry_of, entry_text, entries_text}
+use Rattle.sim_text.specs.Trace.{item_text, items_text}
+use Rattle.proxy_top.specs.Solo.{solo, item_of}
 
 -- what was printed so far and what is left give the text of all
 pub record IsOnItsWay (answer : AnswerAll) (all : List ℕ) (end : ℕ) (port : PortState) (text : List ℕ) : Type 0 where
-  pub printed : text ++ entries_text (solo answer port.left) ≡ all
+  pub printed : text ++ items_text (solo answer port.left) ≡ all
   pub in_order : IsInOrder port.left end
   pub same_end : port.end ≡ end
 
@@ -25,7 +26,7 @@ pub goes : (answer : AnswerAll) (all : List ℕ) (end : ℕ) (old new : PortStat
     → IsOnItsWay answer all end old text → Handled answer old text new text' a → IsOnItsWay answer all end new text'
 goes answer all end old new text text' a way turned = record {
   printed =
-      let before : text ++ (entry_text (entry_of answer a) ++ entries_text (solo answer new.left)) ≡ all = rw turned.left at way.printed in
+      let before : text ++ (item_text (item_of answer a) ++ items_text (solo answer new.left)) ≡ all = rw turned.left at way.printed in
       rw (turned.text_is, append_assoc) before;
   in_order = let ordered : IsInOrder (a ∷ new.left) end = rw turned.left at way.in_order in in_order_rest a new.left end ordered;
   same_end = turned.end ∙ way.same_end;

@@ -4,7 +4,6 @@ use Rattle.std.specs.Fmt.{decimal}
 use Rattle.outside_ports.specs.Counts.{Rises}
 use Rattle.outside_ports.specs.Files.{Folder, Holds, IsLonger}
 use Rattle.outside_ports.specs.Told.{Grows}
-use Rattle.outside_ports.specs.declared.port.Arrival.{Arrival}
 use Rattle.pv_values.specs.declared.refusal.Place.{Place}
 use Rattle.cfg_tree.specs.declared.script.Script.{Script}
 use Rattle.cfg_tree.specs.declared.refusal_kind.RefusalKind.TheVariants.{Syntax, TooLarge}
@@ -15,8 +14,9 @@ use Rattle.proxy_top.specs.declared.top.Ending.TheVariants as outcome
 use Rattle.proxy_top.specs.Accept.{AcceptsText, RefusesText}
 use Rattle.proxy_top.specs.Commands.{check_words, sim_words, IsNoCommand}
 use Rattle.proxy_top.specs.Script.{IsScript}
-use Rattle.proxy_top.specs.Scenario.{IsScenario, IsFirstWrong}
-use Rattle.proxy_top.specs.Solo.{solo, trace}
+use Rattle.sim_text.specs.Scenario.{Contents, IsScenario, IsFirstWrong}
+use Rattle.sim_text.specs.Trace.{trace}
+use Rattle.proxy_top.specs.Solo.{solo}
 
 abbrev pub place : ℕ → ℕ → Place
 place from to = record { from = from; to = to }
@@ -83,10 +83,9 @@ pub record IsRun (words : List (List ℕ)) (folder : Option Folder) (printed : L
   pub accepted : ReadsScript folder script answer
   pub text : List ℕ
   pub held : Holds folder scenario text
-  pub arrivals : List Arrival
-  pub end : ℕ
-  pub reads : IsScenario text arrivals end
-  pub trace_is : printed ≡ trace (solo answer arrivals) end
+  pub said : Contents
+  pub reads : IsScenario text said
+  pub trace_is : printed ≡ trace (solo answer said.arrivals) said.end 0
 
 -- the words are `sim`, and the script is malformed, or longer than 1 MiB: that is Syntax at 0..0
 pub record IsRefusedBySim (words : List (List ℕ)) (folder : Option Folder) (kind : ℕ) (at : Place) : Type 0 where
@@ -255,9 +254,8 @@ pub record IsReady (words : List (List ℕ)) (folder : Option Folder) : Type 0 w
   pub accepted : IsScript text answer
   pub lines : List ℕ
   pub told : Tells folder scenario 4194304 lines
-  pub arrivals : List Arrival
-  pub end : ℕ
-  pub reads : IsScenario lines arrivals end
+  pub said : Contents
+  pub reads : IsScenario lines said
 
 -- the words are `sim`, and the script is malformed
 pub record IsMalformedScript (words : List (List ℕ)) (folder : Option Folder) : Type 0 where

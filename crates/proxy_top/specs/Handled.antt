@@ -3,7 +3,8 @@ use Rattle.std.specs.Prelude.{◌≡◌, ℕ, Bool, true, false, List, [], ◌�
 use Rattle.outside_ports.specs.declared.port.Arrival.{Arrival}
 use Rattle.outside_ports.specs.MemPort.{PortState}
 use Rattle.proxy_top.specs.declared.script.AnswerAll.{AnswerAll}
-use Rattle.proxy_top.specs.Solo.{entry_of, entry_text}
+use Rattle.sim_text.specs.Trace.{item_text}
+use Rattle.proxy_top.specs.Solo.{item_of}
 
 -- a port in memory keeps what is to come, and its clock
 pub record KeepsArrivals (old new : PortState) : Type 0 where
@@ -15,7 +16,7 @@ pub record KeepsArrivals (old new : PortState) : Type 0 where
 pub record Handled (answer : AnswerAll) (old : PortState) (text : List ℕ) (new : PortState) (text' : List ℕ) (a : Arrival) : Type 0 where
   pub left : old.left ≡ a ∷ new.left
   pub end : new.end ≡ old.end
-  pub text_is : text' ≡ text ++ entry_text (entry_of answer a)
+  pub text_is : text' ≡ text ++ item_text (item_of answer a)
 
 -- none is left, and the clock stands at the end
 pub record AtTheEnd (old : PortState) (text : List ℕ) (new : PortState) (text' : List ℕ) : Type 0 where

@@ -1,8 +1,4 @@
-pub mod Scenario
-pub mod Draft
 pub mod Reply
-pub mod Trace
-pub mod Pieces
 pub mod Solo
 pub mod Handled
 pub mod Script

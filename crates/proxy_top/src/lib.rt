@@ -9,11 +9,9 @@
 mod accept;
 mod command;
 mod reply;
-mod scenario;
 mod script;
 mod sim;
 mod top;
-mod trace;
 
 pub use top::{report_no_memory, simulate};
 

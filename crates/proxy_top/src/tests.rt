@@ -184,6 +184,13 @@ fn scenarios_print_their_trace(rt: HostRuntime) -> Result<(), Fail> {
             0,
             "drop 3 not_sip\nend 3 live 0\n",
         ),
+        sim_case(
+            "hosts, which are not used, and bytes",
+            SCRIPT,
+            "host a.example 1.2.3.4:5\nin 3 1.2.3.4:5\n+0d0A\n+\nend 4\n",
+            0,
+            "drop 3 not_sip\nend 4 live 0\n",
+        ),
     ];
     for case in &cases {
         assert!(rt; holds(rt.alloc(), case)?, "{}", case.shows);
@@ -244,6 +251,20 @@ fn scripts_and_scenarios_in_no_form(rt: HostRuntime) -> Result<(), Fail> {
             "a moment that falls",
             SCRIPT,
             "in 2 1.2.3.4:5\nin 1 1.2.3.4:5\nend 2\n",
+            3,
+            "scenario line 2\n",
+        ),
+        sim_case(
+            "an odd digit",
+            SCRIPT,
+            "in 1 1.2.3.4:5\n+0d0\nend 1\n",
+            3,
+            "scenario line 2\n",
+        ),
+        sim_case(
+            "a host behind a datagram",
+            SCRIPT,
+            "in 1 1.2.3.4:5\nhost a 1.2.3.4:5\nend 1\n",
             3,
             "scenario line 2\n",
         ),

@@ -37,12 +37,12 @@ ghost use Rattle.proxy_top.specs.Endings.{
 
 use crate::accept::{a_text_is_refused_in_one_way, accepted, no_text_is_accepted_and_refused};
 use crate::command::{Command, read_command};
-use crate::scenario::{ScenarioFault, read_scenario};
 use crate::script::read_script;
 use crate::sim::run_sim;
 use numerals::push_number;
 use outside_ports::{Console, FileFault, Files, PrintEnd};
 use pv_values::{Place, ScriptFault};
+use sim_text::{ScenarioFault, read_scenario};
 use std::alloc::{AllocError as NoMemory, Global};
 
 /// The longest script, in bytes.

@@ -1,8 +1,0 @@
--- Where no CRLF stands, the piece is the whole datagram.
-use Rattle.std.proofs.Common.{arith}
-use Rattle.proxy_top.proofs.Pieces.{ends}
-use Rattle.proxy_top.proofs.trace.first_len.Goals as goal
-
-pub returns-clause-value : goal.returns-clause-value
-returns-clause-value c =
-    let none = ends c.args.datagram.now c.loop-at.at (omega arith) in omega (arith, none, c.loop-at.invariant)

@@ -1,0 +1,7 @@
+mod Names
+mod Lines
+mod Reading
+pub mod Once
+mod Drafts
+mod Sound
+mod Pieces

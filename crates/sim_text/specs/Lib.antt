@@ -1,0 +1,4 @@
+pub mod Scenario
+pub mod Draft
+pub mod Trace
+pub mod Pieces
