@@ -21,6 +21,8 @@ pub use facts::{
     ArmedBlocks, BLOCKS, Facts, FinalTimers, Outcome, Response, Responses, RunData, Standing,
     Target, Targets,
 };
+pub use fields::is_field_named;
 pub use pv_values::BlockKind;
 pub use reading::read_pv;
+pub use uri_parts::bytes_at;
 pub use writing::write_pv;
