@@ -77,10 +77,12 @@ abbrev pub is_cut_at : Span → Edit → Bool
 is_cut_at at (Cut span) = (span.from == at.from) && (span.to == at.to)
 is_cut_at at (Insert place text) = false
 
--- the fields of this name that aren't cut yet
+-- the field has this name and isn't cut yet
+abbrev pub is_left : List ℕ → List ℕ → List Edit → HeaderSpan → Bool
+is_left b name edits f = is_field_named b name f && not (list_any (is_cut_at f.whole) edits)
+
 abbrev pub left_named : Received → List ℕ → List Edit → List HeaderSpan
-left_named r name edits =
-    filter (λ f. is_field_named r.bytes name f && not (list_any (is_cut_at f.whole) edits)) r.message.head.fields.items
+left_named r name edits = filter (is_left r.bytes name edits) r.message.head.fields.items
 
 -- the cuts of whole fields
 abbrev pub field_cuts : List HeaderSpan → List Edit

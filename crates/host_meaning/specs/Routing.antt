@@ -91,9 +91,10 @@ onward b w = to_next b w w.left
 abbrev pub behind_strict : Around → List ℕ → Way → Way
 behind_strict a b w = onward b (top_cut a b w w.left)
 
-abbrev pub way : Around → Received → List ℕ → Option (List ℕ) → Way
-way a r uri destination =
-    behind_strict a r.bytes (from_strict a r.bytes (record { uri = uri; destination = destination; cut = []; left = route_values r; back = None }))
+-- the way of a request with these Route values, this target and this destination
+abbrev pub way : Around → List ℕ → List RouteValue → List ℕ → Option (List ℕ) → Way
+way a b values uri destination =
+    behind_strict a b (from_strict a b (record { uri = uri; destination = destination; cut = []; left = values; back = None }))
 
 -- ---- its edits
 
@@ -131,7 +132,7 @@ gone r s w =
 abbrev pub first_call : Around → Received → RunState → RowCourse
 first_call a r s =
     if length (route_fields r) == 0 then settled (negsuc 0) s
-    else gone r s (way a r s.facts.uri s.facts.destination)
+    else gone r s (way a r.bytes (route_values r) s.facts.uri s.facts.destination)
 
 -- loose_route(): -1 without a Route field; -2 where its edits don't all fit; else 1. A later call changes nothing and answers the same
 abbrev pub again : Option ℤ → RowCourse → RunState → RowCourse

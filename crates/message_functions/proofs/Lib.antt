@@ -1,0 +1,6 @@
+pub mod Fitting
+pub mod Steps
+pub mod Bars
+pub mod RouteValues
+pub mod HeaderTexts
+pub mod Rooms

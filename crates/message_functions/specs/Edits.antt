@@ -1,0 +1,14 @@
+-- What is said of edits that are made one after another until one doesn't fit.
+use Rattle.std.specs.Prelude.{◌≡◌, Bool, true, List, ◌++◌}
+use Rattle.msg_edits.specs.declared.parts.Edit.{Edit}
+use Rattle.host_meaning.specs.Headers.{all_fit}
+
+-- the old edits stand before whatever was made
+abbrev pub GoesOn : List Edit → List Edit → Type 0
+GoesOn old new = (some : List Edit) × (new ≡ old ++ some)
+
+-- whether all of these edits fit is told; where they do they are made, and else the old ones stand before what was made
+pub record Makes (old more new : List Edit) (made : Bool) : Type 0 where
+  pub fit : all_fit old more ≡ made
+  pub made : made ≡ true → new ≡ old ++ more
+  pub goes_on : GoesOn old new
