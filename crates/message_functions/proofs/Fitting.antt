@@ -116,3 +116,7 @@ makes_stops old new xs ys h = record {
 -- all but the old ones are forgotten
 pub forgotten : (old new : List Edit) → GoesOn old new → take (length old) new ≡ old
 forgotten old new h = ap (λ (l : List Edit). take (length old) l) h.1 ∙ take-append_seam old h.0
+
+-- the edits that stood before
+pub old_edits : (old mid now : List Edit) (n : ℕ) → n ≡ length old → now ≡ mid → GoesOn old mid → take n now ≡ old
+old_edits old mid now n len is h = rw (len, is) (forgotten old mid h)

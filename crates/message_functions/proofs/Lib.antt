@@ -1,5 +1,6 @@
 pub mod Fitting
 pub mod Steps
+pub mod Drops
 pub mod Bars
 pub mod RouteValues
 pub mod HeaderTexts

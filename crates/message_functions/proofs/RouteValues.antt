@@ -1,7 +1,8 @@
 -- The values of a Route field, read one after the other.
-use Rattle.std.proofs.Common.{◌≡◌, ℕ, zero, suc, ◌+◌, ◌<◌, ◌≤◌, List, [], ◌∷◌, ◌++◌, length, take, refl, sym, ap, ◌∙◌, arith, append_assoc, Some, None}
+use Rattle.std.proofs.Common.{◌≡◌, ℕ, zero, suc, ◌+◌, ◌<◌, ◌≤◌, List, [], ◌∷◌, ◌++◌, length, take, refl, sym, ap, ◌∙◌, arith, append_assoc, inl, inr, length-append, Some, None}
 use Rattle.std.specs.Prelude.{All, Option, IfSome}
-use Rattle.std.proofs.lemmas.List.{append-nil}
+use Rattle.std.proofs.lemmas.List.{append-nil, get_or_append_left, get_or_at}
+use Rattle.std.proofs.lemmas.Bool.{cases_lt}
 use Rattle.std.proofs.Math.Seq.{append_snoc}
 use Rattle.sip_fields.specs.declared.name_addr.NameAddr.{NameAddr}
 use Rattle.sip_fields.specs.NameAddr.{route_at, IsNameAddrBetween}
@@ -21,8 +22,10 @@ pub reading_begins : (b : List ℕ) (f : HeaderSpan) (old : List RouteValue) →
 reading_begins b f old is = record { whole = refl; inside = (is.value, omega arith); lie = λ h. h }
 
 all_push : (b : List ℕ) (xs : List RouteValue) (x : RouteValue) → All (LiesIn b) xs → LiesIn b x → All (LiesIn b) (xs ++ x ∷ [])
-all_push b [] x h k = (k, tt)
-all_push b (y ∷ xs) x h k = (h.0, all_push b xs x h.1 k)
+all_push b xs x each one = λ k d lt. elim (cases_lt k (length xs)) [
+  | inl low ↦ rw (get_or_append_left xs (x ∷ []) d k low) (each k d low)
+  | inr high ↦ let last : length xs ≡ k = omega (arith, length-append xs (x ∷ [])) in rw (get_or_at xs x [] d k last) one
+]
 
 inside_next : (b : List ℕ) (to p n : ℕ) (next : Option ℕ) → IfSome next (λ k. (p < k) × (k ≤ to)) → length b < suc n + p → IfSome next (λ k. (k ≤ to) × (length b < n + k))
 inside_next b to p n None h e = tt

@@ -8,7 +8,7 @@ abbrev pub GoesOn : List Edit → List Edit → Type 0
 GoesOn old new = (some : List Edit) × (new ≡ old ++ some)
 
 -- whether all of these edits fit is told; where they do they are made, and else the old ones stand before what was made
-pub record Makes (old more new : List Edit) (made : Bool) : Type 0 where
-  pub fit : all_fit old more ≡ made
-  pub made : made ≡ true → new ≡ old ++ more
+pub record Makes (old more new : List Edit) (done : Bool) : Type 0 where
+  pub fit : all_fit old more ≡ done
+  pub made : done ≡ true → new ≡ old ++ more
   pub goes_on : GoesOn old new

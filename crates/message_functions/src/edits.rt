@@ -8,7 +8,7 @@ use sip_words::Span;
 use std::alloc::{AllocError as NoMemory, Global};
 
 /// Cuts this span where that fits, and tells whether it did.
-#[tactic(auto, using(crate::proofs::Fitting::cut_made, crate::proofs::Fitting::cut_refused))]
+#[tactic(auto, using(crate::proofs::Fitting::cut_made, crate::proofs::Fitting::cut_not_made))]
 pub fn cut(edits: &mut Edits, at: Span) -> bool
     ensures { Makes edits.old (Cut at ∷ []) edits.new result }
 {
@@ -19,7 +19,7 @@ pub fn cut(edits: &mut Edits, at: Span) -> bool
 }
 
 /// Inserts a text where that fits, and tells whether it did.
-#[tactic(auto, using(crate::proofs::Fitting::insert_made, crate::proofs::Fitting::insert_refused))]
+#[tactic(auto, using(crate::proofs::Fitting::insert_made, crate::proofs::Fitting::insert_not_made))]
 pub fn insert(
     alloc: Global,
     edits: &mut Edits,

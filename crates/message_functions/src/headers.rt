@@ -33,6 +33,7 @@ fn is_between_bars(words: &[u8], word: &[u8]) -> bool
 }
 
 /// Whether the method of CSeq is one of those between the bars of `A|B`: 1, else -1.
+#[tactic(auto, using(pv_table::proofs::PartsWithin::method_within))]
 pub fn is_method(b: &[u8], m: &Message, methods: &[u8]) -> i64
     requires { Reads b.now m.now }
     ensures { (s : RunState) → is_method (received b.now m.now) methods.now s ≡ code result s }
@@ -65,6 +66,7 @@ fn has_field(b: &[u8], fields: &[HeaderSpan], name: &[u8]) -> bool
 }
 
 /// Whether the message, as it was received, has a field of this name: 1, else -1.
+#[tactic(auto, using(pv_table::proofs::PartsWithin::fields_are))]
 pub fn is_present_hf(b: &[u8], m: &Message, name: &[u8]) -> i64
     requires { Reads b.now m.now }
     ensures { (s : RunState) → is_present_hf (received b.now m.now) name.now s ≡ code result s }
@@ -98,6 +100,14 @@ fn is_cut(at: Span, edits: &[Edit]) -> bool
     false
 }
 
+/// Whether the field has this name, and none of the edits cuts it.
+fn is_left(b: &[u8], name: &[u8], edits: &[Edit], field: &HeaderSpan) -> bool
+    requires { IsField b.now field.now }
+    ensures { result ≡ is_left b.now name.now edits.now field.now }
+{
+    is_field_named(b, name, field) && !is_cut(field.whole, edits)
+}
+
 /// Cuts each of the fields that has this name and isn't cut yet, and tells whether all fit.
 fn cut_named(b: &[u8], fields: &[HeaderSpan], name: &[u8], edits: &mut Edits) -> bool
     requires { All (IsField b.now) fields.now }
@@ -105,10 +115,7 @@ fn cut_named(b: &[u8], fields: &[HeaderSpan], name: &[u8], edits: &mut Edits) ->
 {
     let before = edits.len();
     for field in fields {
-        if is_field_named(b, name, field)
-            && !is_cut(field.whole, &edits.as_slice()[..before])
-            && !cut(edits, field.whole)
-        {
+        if is_left(b, name, &edits.as_slice()[..before], field) && !cut(edits, field.whole) {
             return false;
         }
     }
@@ -117,6 +124,7 @@ fn cut_named(b: &[u8], fields: &[HeaderSpan], name: &[u8], edits: &mut Edits) ->
 
 /// Cuts every field of this name that isn't cut yet. 1; -1 where no such field is left; -2, with none cut, where the cuts
 /// don't all fit.
+#[tactic(auto, using(pv_table::proofs::PartsWithin::fields_are))]
 pub fn remove_hf(b: &[u8], m: &Message, facts: &mut Facts, name: &[u8]) -> i64
     requires { Reads b.now m.now }
     ensures { ComesTo (remove_hf (received b.now m.now) name.now) facts.old result facts.new }

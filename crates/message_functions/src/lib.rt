@@ -8,8 +8,9 @@
 
 mod edits;
 mod headers;
+mod kinds;
 mod ours;
-mod record_route;
+mod record_routing;
 mod responses;
 mod room;
 mod routing;
@@ -20,7 +21,7 @@ pub use headers::{
     append_hf, has_totag, is_method, is_present_hf, mf_process_maxfwd_header, remove_hf,
 };
 pub use ours::is_myself;
-pub use record_route::record_route;
+pub use record_routing::record_route;
 pub use responses::sl_send_reply;
 pub use room::TextRoom;
 pub use routing::loose_route;

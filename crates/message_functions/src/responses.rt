@@ -10,12 +10,13 @@ use pv_values::Text;
 use sip_msg::{Message, Start};
 
 /// Whether the message is an ACK.
+#[tactic(auto, using(pv_table::proofs::PartsWithin::start_within))]
 fn is_ack(b: &[u8], m: &Message) -> bool
     requires { Reads b.now m.now }
     ensures { result ≡ is_ack (received b.now m.now) }
 {
     match m.start {
-        Start::Request { method, .. } => bytes_at(b, method) == b"ACK",
+        Start::Request { method, .. } => bytes_at(b, method) == b"ACK".as_slice(),
         Start::Status { .. } => false,
     }
 }

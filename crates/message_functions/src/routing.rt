@@ -15,6 +15,7 @@ ghost use Rattle.message_functions.specs.Edits.{Makes, GoesOn};
 ghost use Rattle.message_functions.specs.Ways.{shown, LiesIn, IsRouted};
 
 use crate::edits::{cut, insert};
+use crate::kinds::is_of;
 use crate::ours::{is_loose, is_ours};
 use arrayvec::ArrayVec;
 use cfg_tree::Parameters;
@@ -29,6 +30,7 @@ use sip_words::Span;
 use std::alloc::{AllocError as NoMemory, Global};
 
 /// The way of a request so far.
+#[derive(Drop)]
 struct Way<'a> {
     /// Its target.
     uri: &'a [u8],
@@ -42,6 +44,7 @@ struct Way<'a> {
 }
 
 /// Where a request goes.
+#[derive(Drop)]
 struct Routed {
     uri: Text,
     destination: Option<Text>,
@@ -127,7 +130,7 @@ fn route_values(
 {
     let mut values = Vec::new(alloc);
     for field in fields {
-        if Kind::Route.is_same(field.kind) {
+        if is_of(Kind::Route, field) {
             push_values(b, field, &mut values)?;
         }
     }
@@ -137,8 +140,8 @@ fn route_values(
 impl<'a> Way<'a> {
     /// A strict router sent the request here where the target is ours and has `lr`: the last Route value is its target.
     fn from_strict(self, b: &'a [u8], settings: &Settings, parameters: &Parameters) -> Way<'a>
-        requires lie { All (LiesIn b.now) self.entry.left.now }
-        requires room { length self.entry.cut.items ≤ 0 }
+        requires lie { All (LiesIn b.now) self.left.now }
+        requires room { length self.cut.items ≤ 0 }
         ensures way { (received : Option Received) → shown result ≡ from_strict (around parameters.now settings.now received) b.now (shown self.entry) }
         ensures lie { All (LiesIn b.now) result.left.now }
         ensures room { length result.cut.items ≤ 1 }
@@ -163,8 +166,8 @@ impl<'a> Way<'a> {
 
     /// A top value that is ours is cut.
     fn top_cut(self, b: &'a [u8], settings: &Settings, parameters: &Parameters) -> Way<'a>
-        requires lie { All (LiesIn b.now) self.entry.left.now }
-        requires room { length self.entry.cut.items ≤ 1 }
+        requires lie { All (LiesIn b.now) self.left.now }
+        requires room { length self.cut.items ≤ 1 }
         ensures way { (received : Option Received) → shown result ≡ top_cut (around parameters.now settings.now received) b.now (shown self.entry) self.entry.left.now }
         ensures lie { All (LiesIn b.now) result.left.now }
         ensures room { length result.cut.items ≤ 2 }
@@ -189,8 +192,8 @@ impl<'a> Way<'a> {
     /// The next router: by the destination where it is a loose one. A strict one becomes the target, and the target goes
     /// behind the Route fields.
     fn onward(self, b: &'a [u8]) -> Way<'a>
-        requires lie { All (LiesIn b.now) self.entry.left.now }
-        requires room { length self.entry.cut.items ≤ 2 }
+        requires lie { All (LiesIn b.now) self.left.now }
+        requires room { length self.cut.items ≤ 2 }
         ensures { shown result ≡ onward b.now (shown self.entry) }
     {
         let [next, rest @ ..] = self.left else {
@@ -219,7 +222,7 @@ impl<'a> Way<'a> {
 }
 
 /// The way of a request with this target and destination, whose Route values are these.
-fn way<'a>(
+fn way_of<'a>(
     b: &'a [u8],
     values: &'a [RouteValue],
     uri: &'a [u8],
@@ -303,7 +306,7 @@ fn cut_routes(
 {
     let mut values = Vec::new(alloc);
     for field in fields {
-        if Kind::Route.is_same(field.kind) {
+        if is_of(Kind::Route, field) {
             values.clear();
             push_values(b, field, &mut values)?;
             if !cut_in(places, field, values.as_slice(), edits) {
@@ -416,7 +419,7 @@ fn has_route(fields: &[HeaderSpan]) -> bool
     ensures { result ≡ not (length (filter (is_of kind.Route) fields.now) == 0) }
 {
     for field in fields {
-        if Kind::Route.is_same(field.kind) {
+        if is_of(Kind::Route, field) {
             return true;
         }
     }
@@ -443,7 +446,7 @@ fn first_call(
     let values = route_values(alloc, b, fields)?;
     let uri = facts.uri.bytes();
     let destination = bytes_of(&facts.destination);
-    let way = way(b, values.as_slice(), uri, destination, settings, parameters);
+    let way = way_of(b, values.as_slice(), uri, destination, settings, parameters);
     let Some(routed) = follow(alloc, b, m, &way, &mut facts.edits)? else {
         return Ok(-2);
     };

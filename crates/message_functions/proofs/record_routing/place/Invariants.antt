@@ -3,7 +3,7 @@ use Rattle.std.specs.List.{filter, last_or}
 use Rattle.sip_scan.specs.declared.field.Kind.TheVariants as kind
 use Rattle.sip_msg.specs.Fields.{first, is_of}
 use Rattle.host_meaning.specs.Headers.{end_of_field}
-use Rattle.message_functions.proofs.record_route.place.Given as goal
+use Rattle.message_functions.proofs.record_routing.place.Given as goal
 
 -- none of those before is a Record-Route, and the last Via of them ends here
 abbrev pub invariant-loop-field : goal.invariant-loop-field

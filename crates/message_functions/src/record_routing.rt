@@ -4,6 +4,7 @@ ghost use Rattle.host_meaning.specs.Run.{Around, received, ComesTo};
 ghost use Rattle.host_meaning.specs.Headers.{record_route, record_route_line, record_route_place};
 
 use crate::edits::insert;
+use crate::kinds::is_of;
 use numerals::push_address;
 use outside_ports::Addr;
 use pv_table::Facts;
@@ -17,10 +18,11 @@ fn place(fields: &[HeaderSpan]) -> usize
 {
     let mut behind_vias = 0;
     for field in fields {
-        match field.kind {
-            Kind::RecordRoute => return field.whole.from,
-            Kind::Via => behind_vias = field.whole.to,
-            _ => {}
+        if is_of(Kind::RecordRoute, field) {
+            return field.whole.from;
+        }
+        if is_of(Kind::Via, field) {
+            behind_vias = field.whole.to;
         }
     }
     behind_vias
