@@ -14,7 +14,7 @@ use Rattle.msg_edits.specs.declared.list.EditFault.TheVariants.{Overlap, Full, N
 use Rattle.msg_edits.specs.Edited.{has_byte, cuts_byte, is_cut}
 use Rattle.msg_edits.specs.Causes.{MeetsCut, CanCut, RefusesCut, RefusesInsert}
 use Rattle.host_meaning.specs.Headers.{shares_byte, meets, fits, all_fit}
-use Rattle.message_functions.specs.Edits.{GoesOn, Makes}
+use Rattle.message_functions.specs.Edits.{GoesOn, Makes, MakesOne}
 
 -- ---- one edit
 
@@ -88,11 +88,15 @@ cut_made old new at can is = makes_one old new (Cut at) (cut_fits old at can) is
 pub cut_not_made : (old new : List Edit) (at : Span) (fault : EditFault) → RefusesCut old at fault → new ≡ old → Makes old (Cut at ∷ []) new false
 cut_not_made old new at fault cause is = refuses_one old new (Cut at) (cut_refused old at fault cause) is
 
-pub insert_made : (old new : List Edit) (place : ℕ) (text : List ℕ) → length old < 64 → new ≡ old ++ Insert place text ∷ [] → Makes old (Insert place text ∷ []) new true
-insert_made old new place text few is = makes_one old new (Insert place text) (grind (arith, nat_tests)) is
+pub insert_made : (old new : List Edit) (place : ℕ) (text : List ℕ) → length old < 64 → new ≡ old ++ Insert place text ∷ [] → MakesOne old (Insert place text) new true
+insert_made old new place text few is = record { fit = grind (arith, nat_tests); made = is }
 
-pub insert_not_made : (old new : List Edit) (place : ℕ) (text : List ℕ) → 64 ≤ length old → new ≡ old → Makes old (Insert place text ∷ []) new false
-insert_not_made old new place text full is = refuses_one old new (Insert place text) (grind (arith, nat_tests)) is
+pub insert_not_made : (old new : List Edit) (place : ℕ) (text : List ℕ) → 64 ≤ length old → new ≡ old → MakesOne old (Insert place text) new false
+insert_not_made old new place text full is = record { fit = grind (arith, nat_tests); made = is }
+
+pub one_makes : (old : List Edit) (e : Edit) (new : List Edit) (done : Bool) → MakesOne old e new done → Makes old (e ∷ []) new done
+one_makes old e new true h = makes_one old new e h.fit h.made
+one_makes old e new false h = refuses_one old new e h.fit h.made
 
 -- what was made goes on, or ends at an edit that doesn't fit
 goes_on_on : (old mid new : List Edit) → GoesOn old mid → GoesOn mid new → GoesOn old new

@@ -5,3 +5,4 @@ pub mod Bars
 pub mod RouteValues
 pub mod HeaderTexts
 pub mod Rooms
+pub mod Messages

@@ -1,7 +1,7 @@
 //! Edits that are made where they fit.
 ghost use Rattle.std.specs.Prelude.{[], ◌∷◌, ◌≡◌, IfOk, OnErr};
 ghost use Rattle.msg_edits.specs.declared.parts.Edit.TheVariants.{Cut, Insert};
-ghost use Rattle.message_functions.specs.Edits.{Makes};
+ghost use Rattle.message_functions.specs.Edits.{Makes, MakesOne};
 
 use msg_edits::{EditFault, Edits};
 use sip_words::Span;
@@ -26,7 +26,7 @@ pub fn insert(
     place: usize,
     text: &[u8],
 ) -> Result<bool, NoMemory>
-    ensures ok { IfOk result (λ made. Makes edits.old (Insert place text.now ∷ []) edits.new made) }
+    ensures ok { IfOk result (λ made. MakesOne edits.old (Insert place text.now) edits.new made) }
     ensures err { OnErr result (edits.new ≡ edits.old) }
 {
     match edits.insert(alloc, place, text) {

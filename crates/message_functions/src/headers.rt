@@ -66,7 +66,6 @@ fn has_field(b: &[u8], fields: &[HeaderSpan], name: &[u8]) -> bool
 }
 
 /// Whether the message, as it was received, has a field of this name: 1, else -1.
-#[tactic(auto, using(pv_table::proofs::PartsWithin::fields_are))]
 pub fn is_present_hf(b: &[u8], m: &Message, name: &[u8]) -> i64
     requires { Reads b.now m.now }
     ensures { (s : RunState) → is_present_hf (received b.now m.now) name.now s ≡ code result s }
@@ -124,7 +123,6 @@ fn cut_named(b: &[u8], fields: &[HeaderSpan], name: &[u8], edits: &mut Edits) ->
 
 /// Cuts every field of this name that isn't cut yet. 1; -1 where no such field is left; -2, with none cut, where the cuts
 /// don't all fit.
-#[tactic(auto, using(pv_table::proofs::PartsWithin::fields_are))]
 pub fn remove_hf(b: &[u8], m: &Message, facts: &mut Facts, name: &[u8]) -> i64
     requires { Reads b.now m.now }
     ensures { ComesTo (remove_hf (received b.now m.now) name.now) facts.old result facts.new }

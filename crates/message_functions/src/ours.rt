@@ -12,7 +12,7 @@ use outside_ports::Addr;
 use pv_table::{BlockKind, Facts, bytes_at};
 use pv_values::Text;
 use sip_fields::{Host, Scheme, Uri, read_uri};
-use sip_words::Span;
+use sip_words::{Span, same_word};
 
 /// The port of a URI without one.
 const DEFAULT_PORT: u16 = 5060;
@@ -47,7 +47,7 @@ fn is_alias(aliases: &[Text], host: &[u8]) -> bool
     ensures { result ≡ is_alias aliases.now host.now }
 {
     for alias in aliases {
-        if host.eq_ignore_ascii_case(alias.bytes()) {
+        if same_word(host, alias.bytes()) {
             return true;
         }
     }

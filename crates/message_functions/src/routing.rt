@@ -341,7 +341,8 @@ fn put_back(
     match back {
         Some(uri) => {
             let line = route_line(alloc, uri)?;
-            insert(alloc, edits, m.head.body - 2, line.as_slice())
+            let made = insert(alloc, edits, m.head.body - 2, line.as_slice())?;
+            Ok(made)
         }
         None => Ok(true),
     }
@@ -363,7 +364,8 @@ fn make_edits(
     if !cut_routes(alloc, b, fields, way.cut.as_slice(), edits)? {
         return Ok(false);
     }
-    put_back(alloc, m, way.back, edits)
+    let made = put_back(alloc, m, way.back, edits)?;
+    Ok(made)
 }
 
 /// A copy of a text, where there is one.
