@@ -1,0 +1,4 @@
+use Rattle.script_host.proofs.message_functions.record_route.Goals as goal
+
+pub returns-clause-ok : goal.returns-clause-ok
+returns-clause-ok c = ?
