@@ -1,0 +1,4 @@
+mod Runs
+mod Written
+mod Read
+mod Called

@@ -1,0 +1,4 @@
+pub mod Asking
+pub mod Lending
+pub mod Rows
+pub mod Running
