@@ -18,6 +18,8 @@ use Rattle.sip_build.specs.Reply.{reply_text}
 use Rattle.msg_edits.specs.declared.parts.Edit.TheVariants.{Insert}
 use Rattle.pv_table.specs.declared.facts.Facts.{Facts}
 use Rattle.pv_table.specs.Writing.{written, assigned}
+use Rattle.host_meaning.specs.declared.ask.Heard.{Heard}
+use Rattle.host_meaning.specs.Short.{TakesNone}
 use Rattle.host_meaning.specs.Run.{Received, Around, RunState, kept, Tells, Lacks, RowCourse, code, argument, is_readable}
 use Rattle.host_meaning.specs.Responses.{sl_send_reply, refuses_reply}
 use Rattle.host_meaning.specs.Headers.{yes_or_no, is_method, has_totag, is_present_hf, fields_removed, remove_hf, left_named, append_hf, is_header_text, fits, all_fit, field_cuts, fits_reply, before_empty_line, hops_code, mf_process_maxfwd_header, record_route, record_route_place, record_route_line}
@@ -28,8 +30,8 @@ use Rattle.host_meaning.specs.Rows.{row, has_started, read_row, write_row, call_
 abbrev pub Keeps : RunState → RowCourse → Type 0
 Keeps s (Ends (Tells answer t)) = kept t ≡ kept s
 Keeps s (Ends (Lacks t)) = kept t ≡ kept s
-Keeps s (Asks ask next) = Unit {0}
-Keeps s (Takes short on) = Unit {0}
+Keeps s (Asks ask next) = (h : Heard) → TakesNone (next h)
+Keeps s (Takes short on) = ⊥
 
 -- ---- functions
 
@@ -99,16 +101,16 @@ over_keeps a r func.AppendHf values s = append_hf_keeps r (argument values 0) s
 over_keeps a r (func.MfProcessMaxfwdHeader n) values s = hops_keep r.message.max_forwards s _ refl
 over_keeps a r func.RecordRoute values s = record_route_keeps a r s
 over_keeps a r func.LooseRoute values s = loose_route_keeps a r s
-over_keeps a r func.Xlog values s = tt
-over_keeps a r (func.ShtRmNameRe table pattern) values s = tt
-over_keeps a r (func.ShtReset table) values s = tt
+over_keeps a r func.Xlog values s = λ h. tt
+over_keeps a r (func.ShtRmNameRe table pattern) values s = λ h. tt
+over_keeps a r (func.ShtReset table) values s = λ h. tt
 over_keeps a r _ values s = refl
 
 without_keeps : (f : Func) (values : List Val) (s : RunState) → Keeps s (call_without f values s)
 without_keeps (func.IsMethod methods) values s = refl
-without_keeps func.Xlog values s = tt
-without_keeps (func.ShtRmNameRe table pattern) values s = tt
-without_keeps (func.ShtReset table) values s = tt
+without_keeps func.Xlog values s = λ h. tt
+without_keeps (func.ShtRmNameRe table pattern) values s = λ h. tt
+without_keeps (func.ShtReset table) values s = λ h. tt
 without_keeps _ values s = refl
 
 called_keeps : (a : Around) (o : Option Received) (f : Func) (values : List Val) (s : RunState) → Keeps s (called a o f values s)
@@ -135,22 +137,22 @@ assigned_keeps f x v = label_of_if (is_written_in x f.kind) f (written f x v) (w
 
 limit_keeps : (t : ℕ) (key : List ℕ) (o : Option ℤ) (s : RunState) → Keeps s (limit_written t key o s)
 limit_keeps t key None s = refl
-limit_keeps t key (Some n) s = tt
+limit_keeps t key (Some n) s = λ h. tt
 
 write_keeps : (x : PvUse) (v : Val) (s : RunState) → Keeps s (write_row x v s)
-write_keeps (pv.Item t key) v s = tt
+write_keeps (pv.Item t key) v s = λ h. tt
 write_keeps (pv.ItemSeconds t key) v s = limit_keeps t key (number_of v) s
 write_keeps x v s = ap (λ (l : Option ℕ). record { blocks = s.blocks; label = l }) (assigned_keeps s.facts x v)
 
 read_keeps : (a : Around) (x : PvUse) (s : RunState) → Keeps s (read_row a x s)
-read_keeps a (pv.Item t key) s = tt
-read_keeps a (pv.ItemSeconds t key) s = tt
-read_keeps a (pv.ItemIncrement t key) s = tt
-read_keeps a (pv.ItemDecrement t key) s = tt
+read_keeps a (pv.Item t key) s = λ h. tt
+read_keeps a (pv.ItemSeconds t key) s = λ h. tt
+read_keeps a (pv.ItemIncrement t key) s = λ h. tt
+read_keeps a (pv.ItemDecrement t key) s = λ h. tt
 read_keeps a pv.Myself s = refl
 read_keeps a x s = refl
 
-row_keeps : (a : Around) (ask : HostAsk) (s : RunState) → Keeps s (row a ask s)
+pub row_keeps : (a : Around) (ask : HostAsk) (s : RunState) → Keeps s (row a ask s)
 row_keeps a (Read x) s = read_keeps a x s
 row_keeps a (Write x v) s = write_keeps x v s
 row_keeps a (Call f values) s =
@@ -158,3 +160,12 @@ row_keeps a (Call f values) s =
 
 pub told_keeps : (a : Around) (ask : HostAsk) (s t : RunState) (answer : HostAnswer) → row a ask s ≡ Ends (Tells answer t) → kept t ≡ kept s
 told_keeps a ask s t answer e = subst (Keeps s) e (row_keeps a ask s)
+
+takes_none : (s : RunState) (c : RowCourse) → Keeps s c → TakesNone c
+takes_none s (Ends end) k = tt
+takes_none s (Asks ask next) k = k
+takes_none s (Takes short on) k = k
+
+-- no row takes memory of its own
+pub row_takes_none : (a : Around) (ask : HostAsk) (s : RunState) → TakesNone (row a ask s)
+row_takes_none a ask s = takes_none s (row a ask s) (row_keeps a ask s)

@@ -6,3 +6,4 @@ pub mod Routing
 pub mod TableRows
 pub mod Rows
 pub mod Host
+pub mod Short

@@ -12,8 +12,8 @@ use crate::lent::{Lent, MessageView};
 use crate::row::{Row, Wait};
 use ht_core::TabOp;
 use message_functions::{
-    TextRoom, append_hf, has_totag, is_method, is_present_hf, loose_route, mf_process_maxfwd_header,
-    record_route, remove_hf, sl_send_reply,
+    TextRoom, append_hf, has_totag, is_method, is_present_hf, loose_route,
+    mf_process_maxfwd_header, record_route, remove_hf, sl_send_reply,
 };
 use pv_table::Facts;
 use pv_values::{Func, FuncName, HostAnswer, Text, Val, as_text};
@@ -90,17 +90,33 @@ fn call_over(
     ensures row { IfOk result (λ r. IsRowOf (call_over (around_of lent.now) (received message.entry.bytes.now message.entry.message.now) function.now values.now) facts.old r facts.new) }
     ensures err { OnErr result (facts.new ≡ facts.old) }
 {
-    let MessageView { bytes: b, message: m } = message;
+    let MessageView {
+        bytes: b,
+        message: m,
+    } = message;
     match function {
         Func::SlSendReply(status) => {
             let reason = argument(alloc, values, 0)?;
             let code = sl_send_reply(b, m, facts, *status, reason, room);
             Ok(Row::Tells(HostAnswer::Code(code)))
         }
-        Func::IsMethod(methods) => Ok(Row::Tells(HostAnswer::Code(is_method(b, m, methods.bytes())))),
+        Func::IsMethod(methods) => Ok(Row::Tells(HostAnswer::Code(is_method(
+            b,
+            m,
+            methods.bytes(),
+        )))),
         Func::HasTotag => Ok(Row::Tells(HostAnswer::Code(has_totag(m)))),
-        Func::IsPresentHf(name) => Ok(Row::Tells(HostAnswer::Code(is_present_hf(b, m, name.bytes())))),
-        Func::RemoveHf(name) => Ok(Row::Tells(HostAnswer::Code(remove_hf(b, m, facts, name.bytes())))),
+        Func::IsPresentHf(name) => Ok(Row::Tells(HostAnswer::Code(is_present_hf(
+            b,
+            m,
+            name.bytes(),
+        )))),
+        Func::RemoveHf(name) => Ok(Row::Tells(HostAnswer::Code(remove_hf(
+            b,
+            m,
+            facts,
+            name.bytes(),
+        )))),
         Func::AppendHf => {
             let text = argument(alloc, values, 0)?;
             let code = append_hf(alloc, b, m, facts, text.bytes(), room)?;

@@ -40,11 +40,11 @@ returns-in-Ok-Asks-clause-next c =
     let after = state_of c.row_of.new.state in
     let around = around_of c.args.lent.now in
     λ p next w.
-        subst (λ x. IsHostWent c.args.lent.now.loaded.now around (next (as_heard c.args.answer)) c.asks-in-Ok-Asks.new.self x) (sym c.asks-in-Ok-Asks.ensures.asks)
-        (subst (λ h. IsHostWent c.args.lent.now.loaded.now around (next (as_heard c.args.answer)) h went.Asks) (sym c.asks-in-Ok-Asks.ensures.new)
-        (goes_at _ _ c.asks.self.run c.asks.told before _ _ (c.asks.invariant.is p next w) (c.in-Asks.ensures.next (c.asks.invariant.same ∙ p))
-        (subst (λ q. row around q before ≡ Asks (as_asked c.in-Ok-Asks.ask []) (left c.in-Ok-Asks.wait after)) c.asked-asked.ensures.shows
-        (subst (λ r. IsRow (row around (shown_ask c.asked-asked.result) before) r after) c.in-Ok-Asks.field-0-is c.in-Ok-Asks.ensures.row))))
+    subst (λ x. IsHostWent c.args.lent.now.loaded.now around (next (as_heard c.args.answer)) c.asks-in-Ok-Asks.new.self x) (sym c.asks-in-Ok-Asks.ensures.asks)
+    (subst (λ h. IsHostWent c.args.lent.now.loaded.now around (next (as_heard c.args.answer)) h went.Asks) (sym c.asks-in-Ok-Asks.ensures.new)
+    (goes_at _ _ c.asks.self.run c.asks.told before _ _ (c.asks.invariant.is p next w) (c.in-Asks.ensures.next (c.asks.invariant.same ∙ p))
+    (subst (λ q. row around q before ≡ Asks (as_asked c.in-Ok-Asks.ask []) (left c.in-Ok-Asks.wait after)) c.asked-asked.ensures.shows
+    (subst (λ r. IsRow (row around (shown_ask c.asked-asked.result) before) r after) c.in-Ok-Asks.field-0-is c.in-Ok-Asks.ensures.row))))
 
 pub returns-in-Ok-Asks-clause-less : goal.returns-in-Ok-Asks-clause-less
 returns-in-Ok-Asks-clause-less c =

@@ -1,0 +1,3 @@
+pub mod Handling
+pub mod Solo
+pub mod Turns
