@@ -45,8 +45,8 @@ stays a r facts w edits g fit same = λ blocks.
     let s : RunState = record { facts = facts; blocks = blocks } in
     let after = with_facts s (record s.facts { uri = w.uri; destination = w.destination; edits = s.facts.edits ++ way_edits r w }) in
     follows a r s w g
-      ∙ ap (λ (b : Bool). if not b then settled (negsuc 1) s else settled (pos 1) after) fit
-      ∙ ap (λ (l : List Edit). code (negsuc 1) (with_facts s (record facts { edits = l; loose_route = Some (negsuc 1) }))) (sym same)
+    ∙ ap (λ (b : Bool). if not b then settled (negsuc 1) s else settled (pos 1) after) fit
+    ∙ ap (λ (l : List Edit). code (negsuc 1) (with_facts s (record facts { edits = l; loose_route = Some (negsuc 1) }))) (sym same)
 
 -- they fit and are made
 pub moves : (a : Around) (r : Received) (facts : Facts) (w : Way) (edits : List Edit) (uri : List ℕ) (destination : Option (List ℕ)) → Goes a r facts w
@@ -57,7 +57,7 @@ moves a r facts w edits uri destination g fit made of_uri of_destination = λ bl
     let after = with_facts s (record s.facts { uri = w.uri; destination = w.destination; edits = s.facts.edits ++ way_edits r w }) in
     let comes = λ (l : List Edit) (t : List ℕ) (d : Option (List ℕ)). code (pos 1) (with_facts s (record facts { edits = l; uri = t; destination = d; loose_route = Some (pos 1) })) in
     follows a r s w g
-      ∙ ap (λ (b : Bool). if not b then settled (negsuc 1) s else settled (pos 1) after) fit
-      ∙ ap (λ (l : List Edit). comes l w.uri w.destination) (sym made)
-      ∙ ap (λ (t : List ℕ). comes edits t w.destination) (sym of_uri)
-      ∙ ap (λ (d : Option (List ℕ)). comes edits uri d) (sym of_destination)
+    ∙ ap (λ (b : Bool). if not b then settled (negsuc 1) s else settled (pos 1) after) fit
+    ∙ ap (λ (l : List Edit). comes l w.uri w.destination) (sym made)
+    ∙ ap (λ (t : List ℕ). comes edits t w.destination) (sym of_uri)
+    ∙ ap (λ (d : Option (List ℕ)). comes edits uri d) (sym of_destination)
