@@ -14,14 +14,13 @@ use Rattle.pv_values.specs.declared.variable.PvUse.TheVariants as pv
 use Rattle.pv_values.specs.Values.{number_of}
 use Rattle.pv_values.specs.Kinds.{is_written_in, stands_in, name_of}
 use Rattle.sip_scan.specs.declared.field.HeaderSpan.{HeaderSpan}
-use Rattle.sip_build.specs.Reply.{reply_text}
 use Rattle.msg_edits.specs.declared.parts.Edit.TheVariants.{Insert}
 use Rattle.pv_table.specs.declared.facts.Facts.{Facts}
 use Rattle.pv_table.specs.Writing.{written, assigned}
 use Rattle.host_meaning.specs.declared.ask.Heard.{Heard}
 use Rattle.host_meaning.specs.Short.{TakesNone}
-use Rattle.host_meaning.specs.Run.{Received, Around, RunState, kept, Tells, Lacks, RowCourse, code, argument, is_readable}
-use Rattle.host_meaning.specs.Responses.{sl_send_reply, refuses_reply}
+use Rattle.host_meaning.specs.Run.{Received, Around, RunState, kept, Tells, Lacks, RowCourse, code, argument}
+use Rattle.host_meaning.specs.Responses.{sl_send_reply, refuses_reply, can_reply}
 use Rattle.host_meaning.specs.Headers.{yes_or_no, is_method, has_totag, is_present_hf, fields_removed, remove_hf, left_named, append_hf, is_header_text, fits, all_fit, field_cuts, fits_reply, before_empty_line, hops_code, mf_process_maxfwd_header, record_route, record_route_place, record_route_line}
 use Rattle.host_meaning.specs.Routing.{loose_route, again, first_call, gone, Way, way, way_edits, route_fields, route_values}
 use Rattle.host_meaning.specs.TableRows.{limit_written}
@@ -43,7 +42,7 @@ sl_send_reply_keeps : (r : Received) (status : ℕ) (reason : List ℕ) (s : Run
 sl_send_reply_keeps r status reason s =
     elim (cases_Bool (refuses_reply r s.facts)) [
       | inl t ↦ rw t refl
-      | inr f ↦ rw f (elim (cases_Bool (not (is_readable (reply_text r.bytes r.message s.facts.source status reason)))) [ inl t' ↦ rw t' refl | inr f' ↦ rw f' refl ])
+      | inr f ↦ rw f (elim (cases_Bool (not (can_reply r s.facts status reason))) [ inl t' ↦ rw t' refl | inr f' ↦ rw f' refl ])
     ]
 
 removed_keep : (fields : List HeaderSpan) (s : RunState) → Keeps s (fields_removed fields s)

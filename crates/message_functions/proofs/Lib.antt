@@ -6,3 +6,4 @@ pub mod RouteValues
 pub mod HeaderTexts
 pub mod Rooms
 pub mod Messages
+pub mod FirstCall

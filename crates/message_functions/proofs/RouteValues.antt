@@ -35,11 +35,14 @@ pub reading_goes : (b : List ℕ) (f : HeaderSpan) (old now : List RouteValue) (
     → IsField b f → Reading b f old now before (Some p) n → route_at (take f.value.to b) p ≡ Some v → IsNameAddrBetween p f.value.to v
     → (m : ℕ) × Reading b f old (now ++ route_value before v ∷ []) (Some v.whole.to) v.next m
 reading_goes b f old now before p zero v is r e between = absurd (omega (arith, r.inside, is.end, is.within))
-reading_goes b f old now before p (suc n) v is r e between = (n, record {
-  whole = append_snoc now (route_value before v) (with_rest v.next (values_from n (take f.value.to b) (Some v.whole.to))) ∙ (rw e at r.whole);
-  inside = inside_next b f.value.to p n v.next between.next r.inside.1;
-  lie = λ h. all_push b now (route_value before v) (r.lie h) (record { order = between.uri.order; end = omega (arith, between.uri.high, is.end, is.within) });
-})
+reading_goes b f old now before p (suc n) v is r e between = (
+  n,
+  record {
+    whole = append_snoc now (route_value before v) (with_rest v.next (values_from n (take f.value.to b) (Some v.whole.to))) ∙ (rw e at r.whole);
+    inside = inside_next b f.value.to p n v.next between.next r.inside.1;
+    lie = λ h. all_push b now (route_value before v) (r.lie h) (record { order = between.uri.order; end = omega (arith, between.uri.high, is.end, is.within) });
+  },
+)
 
 pub reading_stops : (b : List ℕ) (f : HeaderSpan) (old now : List RouteValue) (before : Option ℕ) (p n : ℕ)
     → IsField b f → Reading b f old now before (Some p) n → route_at (take f.value.to b) p ≡ None → now ≡ old ++ values_of b f

@@ -71,3 +71,7 @@ flat_push {A} {B} g p xs i d now new lt passes h is =
 
 pub flat_same : {A B : Type 0} (g : A → List B) (p : A → Bool) (xs : List A) (i : ℕ) (d : A) → i < length xs → p (get_or xs i d) ≡ false → flat_map g (filter p (take (i + 1) xs)) ≡ flat_map g (filter p (take i xs))
 flat_same {A} g p xs i d lt fails = ap (λ (l : List A). flat_map g l) (failing p xs i d lt fails)
+
+-- what is put behind nothing
+pub pushed : {B : Type 0} (cleared new slice more : List B) → slice ≡ new → new ≡ cleared ++ more → cleared ≡ [] → slice ≡ more
+pushed {B} cleared new slice more h k e = h ∙ k ∙ ap (λ (l : List B). l ++ more) e

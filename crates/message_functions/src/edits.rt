@@ -20,12 +20,7 @@ pub fn cut(edits: &mut Edits, at: Span) -> bool
 
 /// Inserts a text where that fits, and tells whether it did.
 #[tactic(auto, using(crate::proofs::Fitting::insert_made, crate::proofs::Fitting::insert_not_made))]
-pub fn insert(
-    alloc: Global,
-    edits: &mut Edits,
-    place: usize,
-    text: &[u8],
-) -> Result<bool, NoMemory>
+pub fn insert(alloc: Global, edits: &mut Edits, place: usize, text: &[u8]) -> Result<bool, NoMemory>
     ensures ok { IfOk result (λ made. MakesOne edits.old (Insert place text.now) edits.new made) }
     ensures err { OnErr result (edits.new ≡ edits.old) }
 {

@@ -159,13 +159,7 @@ fn is_header_text(alloc: Global, text: &[u8]) -> Result<bool, NoMemory>
 }
 
 /// Whether the response with these edits reads, which matters in a reply block alone.
-fn fits_reply(
-    kind: BlockKind,
-    b: &[u8],
-    m: &Message,
-    edits: &[Edit],
-    room: &mut TextRoom,
-) -> bool
+fn fits_reply(kind: BlockKind, b: &[u8], m: &Message, edits: &[Edit], room: &mut TextRoom) -> bool
     requires { Reads b.now m.now }
     ensures { result ≡ fits_reply kind (received b.now m.now) edits.now }
 {

@@ -1,13 +1,16 @@
 //! The function that responds without a transaction.
+ghost use Rattle.std.specs.List.{list_all};
 ghost use Rattle.std.specs.Prelude.{◌≡◌};
+ghost use Rattle.sip_scan.specs.Lines.{is_plain};
 ghost use Rattle.sip_msg.specs.Table.{Reads};
 ghost use Rattle.host_meaning.specs.Run.{received, ComesTo};
-ghost use Rattle.host_meaning.specs.Responses.{sl_send_reply, refuses_reply, is_ack, is_undecided};
+ghost use Rattle.host_meaning.specs.Responses.{sl_send_reply, refuses_reply, can_reply, is_ack, is_undecided};
 
 use crate::room::TextRoom;
 use pv_table::{Facts, Outcome, Response, bytes_at};
 use pv_values::Text;
 use sip_msg::{Message, Start};
+use sip_words::Class;
 
 /// Whether the message is an ACK.
 #[tactic(auto, using(pv_table::proofs::PartsWithin::start_within))]
@@ -36,8 +39,36 @@ fn refuses_reply(b: &[u8], m: &Message, facts: &Facts) -> bool
     is_ack(b, m) || facts.standing.exists || !is_undecided(&facts.outcome)
 }
 
+/// Whether the text has no NUL, CR or LF.
+#[tactic(auto, unfolding(sip_words::specs::Bytes::has))]
+fn is_of_one_line(text: &[u8]) -> bool
+    ensures { result ≡ list_all is_plain text.now }
+{
+    for byte in text {
+        if !Class::InLine.has(*byte) {
+            return false;
+        }
+    }
+    true
+}
+
+/// Whether the request can have a response with this code and reason.
+fn can_reply(
+    b: &[u8],
+    m: &Message,
+    facts: &Facts,
+    status: u16,
+    reason: &[u8],
+    room: &mut TextRoom,
+) -> bool
+    requires { Reads b.now m.now }
+    ensures { result ≡ can_reply (received b.now m.now) facts.now status reason.now }
+{
+    is_of_one_line(reason) && room.reply_reads(b, m, facts.source, status, reason)
+}
+
 /// Decides a response without a transaction. 1; -1 for an ACK, with a transaction or an outcome; -3 where the response
-/// would be too long, or would not read.
+/// would be too long or would not read, or where its reason has a NUL, CR or LF.
 pub fn sl_send_reply(
     b: &[u8],
     m: &Message,
@@ -52,7 +83,7 @@ pub fn sl_send_reply(
     if refuses_reply(b, m, facts) {
         return -1;
     }
-    if !room.reply_reads(b, m, facts.source, status, reason.bytes()) {
+    if !can_reply(b, m, facts, status, reason.bytes(), room) {
         return -3;
     }
     facts.outcome = Outcome::Stateless(Response {

@@ -96,11 +96,7 @@ fn value_at(b: &[u8], field: &HeaderSpan, from: usize) -> Option<NameAddr>
 }
 
 /// Puts the values of a Route field behind the others.
-fn push_values(
-    b: &[u8],
-    field: &HeaderSpan,
-    values: &mut Vec<RouteValue>,
-) -> Result<(), NoMemory>
+fn push_values(b: &[u8], field: &HeaderSpan, values: &mut Vec<RouteValue>) -> Result<(), NoMemory>
     requires { IsField b.now field.now }
     ensures values { OnOk result (values.new.items ≡ values.old.items ++ values_of b.now field.now) }
     ensures lie { OnOk result (All (LiesIn b.now) values.old.items → All (LiesIn b.now) values.new.items) }
@@ -119,11 +115,7 @@ fn push_values(
 }
 
 /// The values of all Route fields.
-fn route_values(
-    alloc: Global,
-    b: &[u8],
-    fields: &[HeaderSpan],
-) -> Result<Vec<RouteValue>, NoMemory>
+fn route_values(alloc: Global, b: &[u8], fields: &[HeaderSpan]) -> Result<Vec<RouteValue>, NoMemory>
     requires { All (IsField b.now) fields.now }
     ensures values { IfOk result (λ values. values.items ≡ flat_map (values_of b.now) (filter (is_of kind.Route) fields.now)) }
     ensures lie { IfOk result (λ values. All (LiesIn b.now) values.items) }

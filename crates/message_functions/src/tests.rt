@@ -124,10 +124,18 @@ const NAMES: [(&str, i64); 8] = [
 fn methods_tags_and_fields_are_found(rt: HostRuntime) {
     let m = message(&rt, REQUEST);
     for (methods, code) in &METHODS {
-        assert_eq!(rt; is_method(REQUEST, &m, methods.as_bytes()), *code, "{methods}");
+        assert_eq!(rt;
+            is_method(REQUEST, &m, methods.as_bytes()),
+            *code,
+            "{methods}"
+        );
     }
     for (name, code) in &NAMES {
-        assert_eq!(rt; is_present_hf(REQUEST, &m, name.as_bytes()), *code, "{name}");
+        assert_eq!(rt;
+            is_present_hf(REQUEST, &m, name.as_bytes()),
+            *code,
+            "{name}"
+        );
     }
     assert_eq!(rt; has_totag(&m), -1);
     let reply = message(&rt, REPLY);
@@ -155,14 +163,22 @@ fn all_fields_of_a_name_are_removed_or_none(rt: HostRuntime) -> Result<(), Fail>
     for (count, name, code, after) in &REMOVED {
         let mut of_run = facts(alloc, BlockKind::Request, "sip:x@y")?;
         with_edits(alloc, &mut of_run, *count);
-        assert_eq!(rt; remove_hf(REQUEST, &m, &mut of_run, name.as_bytes()), *code, "{name} at {count}");
+        assert_eq!(rt;
+            remove_hf(REQUEST, &m, &mut of_run, name.as_bytes()),
+            *code,
+            "{name} at {count}"
+        );
         assert_eq!(rt; of_run.edits.len(), *after, "{name} at {count}");
     }
     let mut of_run = facts(alloc, BlockKind::Request, "sip:x@y")?;
     assert_eq!(rt; remove_hf(REQUEST, &m, &mut of_run, b"Subject"), 1);
     assert_eq!(rt; remove_hf(REQUEST, &m, &mut of_run, b"s"), -1);
-    let wanted = b"INVITE sip:x@y SIP/2.0\r\nVia: SIP/2.0/UDP 192.0.2.1:5062;branch=z9hG4bK1\r\nFrom: <sip:bob@b>;tag=f1\r\nTo: <sip:x@y>\r\nCall-ID: c1@b\r\nCSeq: 42 INVITE\r\nX: x\r\n\r\nbody";
-    assert_eq!(rt; edited(&rt, alloc, REQUEST, &of_run)?.as_slice(), wanted.as_slice());
+    let wanted =
+        b"INVITE sip:x@y SIP/2.0\r\nVia: SIP/2.0/UDP 192.0.2.1:5062;branch=z9hG4bK1\r\nFrom: <sip:bob@b>;tag=f1\r\nTo: <sip:x@y>\r\nCall-ID: c1@b\r\nCSeq: 42 INVITE\r\nX: x\r\n\r\nbody";
+    assert_eq!(rt;
+        edited(&rt, alloc, REQUEST, &of_run)?.as_slice(),
+        wanted.as_slice()
+    );
     Ok(())
 }
 
@@ -243,13 +259,20 @@ fn a_response_with_a_field_more_has_to_fit_and_to_read(rt: HostRuntime) -> Resul
         assert_eq!(rt; found, 1);
     }
     let twice = b"CSeq: 1 BYE\r\n";
-    assert_eq!(rt; appended(&rt, alloc, REPLY, BlockKind::Reply, 0, twice)?, -3);
-    assert_eq!(rt; appended(&rt, alloc, REPLY, BlockKind::Failure, 0, twice)?, 1);
+    assert_eq!(rt;
+        appended(&rt, alloc, REPLY, BlockKind::Reply, 0, twice)?,
+        -3
+    );
+    assert_eq!(rt;
+        appended(&rt, alloc, REPLY, BlockKind::Failure, 0, twice)?,
+        1
+    );
     Ok(())
 }
 
 /// A request's start, without Route fields and without its end.
-const FRONT: &str = "ACK sip:b@192.0.2.9 SIP/2.0\r\nVia: SIP/2.0/UDP 192.0.2.1:5060;branch=z9hG4bK6a\r\nFrom: <sip:a@192.0.2.1>;tag=a\r\nTo: <sip:b@192.0.2.9>;tag=t\r\nCall-ID: 6\r\nCSeq: 1 ACK\r\n";
+const FRONT: &str =
+    "ACK sip:b@192.0.2.9 SIP/2.0\r\nVia: SIP/2.0/UDP 192.0.2.1:5060;branch=z9hG4bK6a\r\nFrom: <sip:a@192.0.2.1>;tag=a\r\nTo: <sip:b@192.0.2.9>;tag=t\r\nCall-ID: 6\r\nCSeq: 1 ACK\r\n";
 
 /// A request with these Route fields.
 fn routed(alloc: Global, routes: &str) -> Result<Vec<u8>, AllocError> {
@@ -274,28 +297,119 @@ struct Routing {
 
 const ROUTINGS: [Routing; 13] = [
     // without a Route field
-    Routing { uri: "sip:127.0.0.1;lr", routes: "", code: -1, to: "sip:127.0.0.1;lr", by: "", left: "" },
+    Routing {
+        uri: "sip:127.0.0.1;lr",
+        routes: "",
+        code: -1,
+        to: "sip:127.0.0.1;lr",
+        by: "",
+        left: "",
+    },
     // the top value is ours, and nothing is left
-    Routing { uri: "sip:b@192.0.2.9", routes: "Route: <sip:127.0.0.1:5060;lr>\r\n", code: 1, to: "sip:b@192.0.2.9", by: "", left: "" },
+    Routing {
+        uri: "sip:b@192.0.2.9",
+        routes: "Route: <sip:127.0.0.1:5060;lr>\r\n",
+        code: 1,
+        to: "sip:b@192.0.2.9",
+        by: "",
+        left: "",
+    },
     // two values in one field
-    Routing { uri: "sip:b@192.0.2.9", routes: "Route: <sip:127.0.0.1:5060;lr>, <sip:192.0.2.50;lr>;x=y\r\n", code: 1, to: "sip:b@192.0.2.9", by: "sip:192.0.2.50;lr", left: "Route: <sip:192.0.2.50;lr>;x=y\r\n" },
+    Routing {
+        uri: "sip:b@192.0.2.9",
+        routes: "Route: <sip:127.0.0.1:5060;lr>, <sip:192.0.2.50;lr>;x=y\r\n",
+        code: 1,
+        to: "sip:b@192.0.2.9",
+        by: "sip:192.0.2.50;lr",
+        left: "Route: <sip:192.0.2.50;lr>;x=y\r\n",
+    },
     // an alias on any port, without regard to case, and a field that is cut whole
-    Routing { uri: "sip:b@192.0.2.9", routes: "Route: <sips:Proxy.Example:5090;lr>\r\nRoute: <sip:192.0.2.50;lr>\r\n", code: 1, to: "sip:b@192.0.2.9", by: "sip:192.0.2.50;lr", left: "Route: <sip:192.0.2.50;lr>\r\n" },
+    Routing {
+        uri: "sip:b@192.0.2.9",
+        routes: "Route: <sips:Proxy.Example:5090;lr>\r\nRoute: <sip:192.0.2.50;lr>\r\n",
+        code: 1,
+        to: "sip:b@192.0.2.9",
+        by: "sip:192.0.2.50;lr",
+        left: "Route: <sip:192.0.2.50;lr>\r\n",
+    },
     // the top value isn't ours
-    Routing { uri: "sip:b@192.0.2.9", routes: "Route: <sip:127.0.0.1:5061;lr>\r\n", code: 1, to: "sip:b@192.0.2.9", by: "sip:127.0.0.1:5061;lr", left: "Route: <sip:127.0.0.1:5061;lr>\r\n" },
+    Routing {
+        uri: "sip:b@192.0.2.9",
+        routes: "Route: <sip:127.0.0.1:5061;lr>\r\n",
+        code: 1,
+        to: "sip:b@192.0.2.9",
+        by: "sip:127.0.0.1:5061;lr",
+        left: "Route: <sip:127.0.0.1:5061;lr>\r\n",
+    },
     // a strict router after us
-    Routing { uri: "sip:b@192.0.2.9", routes: "Route: <sip:127.0.0.1;lr>, <sip:192.0.2.50>\r\n", code: 1, to: "sip:192.0.2.50", by: "", left: "Route: <sip:b@192.0.2.9>\r\n" },
-    Routing { uri: "sip:b@192.0.2.9", routes: "Route: <sip:127.0.0.1;lr> , <sip:192.0.2.50>\r\n , <sip:192.0.2.51;lr>\r\n", code: 1, to: "sip:192.0.2.50", by: "", left: "Route: <sip:192.0.2.51;lr>\r\nRoute: <sip:b@192.0.2.9>\r\n" },
+    Routing {
+        uri: "sip:b@192.0.2.9",
+        routes: "Route: <sip:127.0.0.1;lr>, <sip:192.0.2.50>\r\n",
+        code: 1,
+        to: "sip:192.0.2.50",
+        by: "",
+        left: "Route: <sip:b@192.0.2.9>\r\n",
+    },
+    Routing {
+        uri: "sip:b@192.0.2.9",
+        routes: "Route: <sip:127.0.0.1;lr> , <sip:192.0.2.50>\r\n , <sip:192.0.2.51;lr>\r\n",
+        code: 1,
+        to: "sip:192.0.2.50",
+        by: "",
+        left: "Route: <sip:192.0.2.51;lr>\r\nRoute: <sip:b@192.0.2.9>\r\n",
+    },
     // a strict router before us
-    Routing { uri: "sip:127.0.0.1;lr", routes: "Route: <sip:b@192.0.2.9>\r\n", code: 1, to: "sip:b@192.0.2.9", by: "", left: "" },
-    Routing { uri: "sip:127.0.0.1;lr", routes: "Route: <sip:192.0.2.50;lr>, <sip:b@192.0.2.9>\r\n", code: 1, to: "sip:b@192.0.2.9", by: "sip:192.0.2.50;lr", left: "Route: <sip:192.0.2.50;lr>\r\n" },
+    Routing {
+        uri: "sip:127.0.0.1;lr",
+        routes: "Route: <sip:b@192.0.2.9>\r\n",
+        code: 1,
+        to: "sip:b@192.0.2.9",
+        by: "",
+        left: "",
+    },
+    Routing {
+        uri: "sip:127.0.0.1;lr",
+        routes: "Route: <sip:192.0.2.50;lr>, <sip:b@192.0.2.9>\r\n",
+        code: 1,
+        to: "sip:b@192.0.2.9",
+        by: "sip:192.0.2.50;lr",
+        left: "Route: <sip:192.0.2.50;lr>\r\n",
+    },
     // strict routers before and after us
-    Routing { uri: "sip:127.0.0.1;lr", routes: "Route: <sip:192.0.2.50>, <sip:192.0.2.51;lr>\r\nRoute: <sip:b@192.0.2.9>\r\n", code: 1, to: "sip:192.0.2.50", by: "", left: "Route: <sip:192.0.2.51;lr>\r\nRoute: <sip:b@192.0.2.9>\r\n" },
+    Routing {
+        uri: "sip:127.0.0.1;lr",
+        routes: "Route: <sip:192.0.2.50>, <sip:192.0.2.51;lr>\r\nRoute: <sip:b@192.0.2.9>\r\n",
+        code: 1,
+        to: "sip:192.0.2.50",
+        by: "",
+        left: "Route: <sip:192.0.2.51;lr>\r\nRoute: <sip:b@192.0.2.9>\r\n",
+    },
     // a strict router before us, and the top value is ours as well
-    Routing { uri: "sip:proxy.example;lr", routes: "Route: <sip:127.0.0.1;lr>\r\nRoute: <sip:192.0.2.50;lr>, <sip:b@192.0.2.9>\r\n", code: 1, to: "sip:b@192.0.2.9", by: "sip:192.0.2.50;lr", left: "Route: <sip:192.0.2.50;lr>\r\n" },
-    Routing { uri: "sip:proxy.example;lr", routes: "Route: <sip:127.0.0.1;lr>, <sip:b@192.0.2.9>\r\n", code: 1, to: "sip:b@192.0.2.9", by: "", left: "" },
+    Routing {
+        uri: "sip:proxy.example;lr",
+        routes: "Route: <sip:127.0.0.1;lr>\r\nRoute: <sip:192.0.2.50;lr>, <sip:b@192.0.2.9>\r\n",
+        code: 1,
+        to: "sip:b@192.0.2.9",
+        by: "sip:192.0.2.50;lr",
+        left: "Route: <sip:192.0.2.50;lr>\r\n",
+    },
+    Routing {
+        uri: "sip:proxy.example;lr",
+        routes: "Route: <sip:127.0.0.1;lr>, <sip:b@192.0.2.9>\r\n",
+        code: 1,
+        to: "sip:b@192.0.2.9",
+        by: "",
+        left: "",
+    },
     // the target is ours without `lr`
-    Routing { uri: "sip:127.0.0.1", routes: "Route: <sip:192.0.2.50;lr>\r\n", code: 1, to: "sip:127.0.0.1", by: "sip:192.0.2.50;lr", left: "Route: <sip:192.0.2.50;lr>\r\n" },
+    Routing {
+        uri: "sip:127.0.0.1",
+        routes: "Route: <sip:192.0.2.50;lr>\r\n",
+        code: 1,
+        to: "sip:127.0.0.1",
+        by: "sip:192.0.2.50;lr",
+        left: "Route: <sip:192.0.2.50;lr>\r\n",
+    },
 ];
 
 /// The target and the destination of the facts, and the text after their edits, are these.
@@ -342,11 +456,41 @@ fn requests_are_routed_by_their_route_fields(rt: HostRuntime) -> Result<(), Fail
     Ok(())
 }
 
+/// The ACK of a call through this proxy.
+const ACK: &str =
+    "ACK sip:b@192.0.2.9 SIP/2.0\r\nVia: SIP/2.0/UDP 192.0.2.1;branch=z9hG4bK6a\r\nMax-Forwards: 70\r\nFrom: <sip:u@192.0.2.1>;tag=f\r\nTo: <sip:b@192.0.2.9>;tag=t\r\nCall-ID: 6\r\nCSeq: 1 ACK\r\nContent-Length: 0\r\nRoute: <sip:127.0.0.1:5060;lr>\r\n\r\n";
+
+/// It without its Route field.
+const ACK_WITHOUT_ROUTE: &str =
+    "ACK sip:b@192.0.2.9 SIP/2.0\r\nVia: SIP/2.0/UDP 192.0.2.1;branch=z9hG4bK6a\r\nMax-Forwards: 70\r\nFrom: <sip:u@192.0.2.1>;tag=f\r\nTo: <sip:b@192.0.2.9>;tag=t\r\nCall-ID: 6\r\nCSeq: 1 ACK\r\nContent-Length: 0\r\n\r\n";
+
+#[test]
+fn the_ack_of_a_call_loses_its_route_field(rt: HostRuntime) -> Result<(), Fail> {
+    let alloc = rt.alloc();
+    let b = ACK.as_bytes();
+    let m = message(&rt, b);
+    let (settings, parameters) = (settings(alloc), parameters(alloc)?);
+    let mut of_run = facts(alloc, BlockKind::Request, "sip:b@192.0.2.9")?;
+    assert_eq!(rt; has_totag(&m), 1);
+    assert_eq!(rt;
+        loose_route(alloc, b, &m, &mut of_run, &settings, &parameters)?,
+        1
+    );
+    assert_eq!(rt; of_run.uri.bytes(), b"sip:b@192.0.2.9".as_slice());
+    assert!(rt; of_run.destination.is_none());
+    let text = edited(&rt, alloc, b, &of_run)?;
+    assert_eq!(rt; text.as_slice(), ACK_WITHOUT_ROUTE.as_bytes());
+    Ok(())
+}
+
 /// Two cuts and an insert fit over 61 edits, and over more nothing is done, now and later.
 #[test]
 fn loose_routing_makes_all_its_edits_or_none(rt: HostRuntime) -> Result<(), Fail> {
     let alloc = rt.alloc();
-    let b = routed(alloc, "Route: <sip:127.0.0.1;lr>, <sip:192.0.2.50>, <sip:192.0.2.51;lr>\r\n")?;
+    let b = routed(
+        alloc,
+        "Route: <sip:127.0.0.1;lr>, <sip:192.0.2.50>, <sip:192.0.2.51;lr>\r\n",
+    )?;
     let m = message(&rt, b.as_slice());
     let (settings, parameters) = (settings(alloc), parameters(alloc)?);
     for (count, code, after) in [(61, 1, 64), (62, -2, 62), (63, -2, 63), (64, -2, 64)] {
@@ -355,7 +499,11 @@ fn loose_routing_makes_all_its_edits_or_none(rt: HostRuntime) -> Result<(), Fail
         let found = loose_route(alloc, b.as_slice(), &m, &mut of_run, &settings, &parameters)?;
         assert_eq!(rt; found, code);
         assert_eq!(rt; of_run.edits.len(), after);
-        let uri: &[u8] = if code == 1 { b"sip:192.0.2.50" } else { b"sip:b@192.0.2.9" };
+        let uri: &[u8] = if code == 1 {
+            b"sip:192.0.2.50"
+        } else {
+            b"sip:b@192.0.2.9"
+        };
         assert_eq!(rt; of_run.uri.bytes(), uri);
         of_run.edits.truncate(0);
         let again = loose_route(alloc, b.as_slice(), &m, &mut of_run, &settings, &parameters)?;
@@ -420,15 +568,20 @@ fn record_routes(
 #[test]
 fn a_record_route_goes_behind_the_last_via_or_before_others(rt: HostRuntime) -> Result<(), Fail> {
     let alloc = rt.alloc();
-    let none = "ACK sip:b@192.0.2.9 SIP/2.0\r\nVia: SIP/2.0/UDP 192.0.2.1:5060;branch=z9hG4bK6a\r\nRecord-Route: <sip:127.0.0.1:5060;lr>\r\nFrom: <sip:a@192.0.2.1>;tag=a\r\nTo: <sip:b@192.0.2.9>;tag=t\r\nCall-ID: 6\r\nCSeq: 1 ACK\r\n\r\n";
-    let behind_via = "ACK sip:b@192.0.2.9 SIP/2.0\r\nVia: SIP/2.0/UDP 192.0.2.1:5060;branch=z9hG4bK6a\r\nFrom: <sip:a@192.0.2.1>;tag=a\r\nTo: <sip:b@192.0.2.9>;tag=t\r\nCall-ID: 6\r\nCSeq: 1 ACK\r\nv: SIP/2.0/UDP k\r\nRecord-Route: <sip:127.0.0.1:5060;lr>\r\n\r\n";
-    let before_others = "ACK sip:b@192.0.2.9 SIP/2.0\r\nVia: SIP/2.0/UDP 192.0.2.1:5060;branch=z9hG4bK6a\r\nFrom: <sip:a@192.0.2.1>;tag=a\r\nTo: <sip:b@192.0.2.9>;tag=t\r\nCall-ID: 6\r\nCSeq: 1 ACK\r\nX: x\r\nRecord-Route: <sip:127.0.0.1:5060;lr>\r\nRecord-Route: <sip:h;lr>\r\nrecord-route: <sip:i;lr>\r\nv: SIP/2.0/UDP k\r\n\r\n";
-    let others = "X: x\r\nRecord-Route: <sip:h;lr>\r\nrecord-route: <sip:i;lr>\r\nv: SIP/2.0/UDP k\r\n";
+    let none =
+        "ACK sip:b@192.0.2.9 SIP/2.0\r\nVia: SIP/2.0/UDP 192.0.2.1:5060;branch=z9hG4bK6a\r\nRecord-Route: <sip:127.0.0.1:5060;lr>\r\nFrom: <sip:a@192.0.2.1>;tag=a\r\nTo: <sip:b@192.0.2.9>;tag=t\r\nCall-ID: 6\r\nCSeq: 1 ACK\r\n\r\n";
+    let behind_via =
+        "ACK sip:b@192.0.2.9 SIP/2.0\r\nVia: SIP/2.0/UDP 192.0.2.1:5060;branch=z9hG4bK6a\r\nFrom: <sip:a@192.0.2.1>;tag=a\r\nTo: <sip:b@192.0.2.9>;tag=t\r\nCall-ID: 6\r\nCSeq: 1 ACK\r\nv: SIP/2.0/UDP k\r\nRecord-Route: <sip:127.0.0.1:5060;lr>\r\n\r\n";
+    let before_others =
+        "ACK sip:b@192.0.2.9 SIP/2.0\r\nVia: SIP/2.0/UDP 192.0.2.1:5060;branch=z9hG4bK6a\r\nFrom: <sip:a@192.0.2.1>;tag=a\r\nTo: <sip:b@192.0.2.9>;tag=t\r\nCall-ID: 6\r\nCSeq: 1 ACK\r\nX: x\r\nRecord-Route: <sip:127.0.0.1:5060;lr>\r\nRecord-Route: <sip:h;lr>\r\nrecord-route: <sip:i;lr>\r\nv: SIP/2.0/UDP k\r\n\r\n";
+    let others =
+        "X: x\r\nRecord-Route: <sip:h;lr>\r\nrecord-route: <sip:i;lr>\r\nv: SIP/2.0/UDP k\r\n";
     record_routes(&rt, alloc, 0, 1, ("", none))?;
     record_routes(&rt, alloc, 63, 1, ("", none))?;
     record_routes(&rt, alloc, 0, 1, ("v: SIP/2.0/UDP k\r\n", behind_via))?;
     record_routes(&rt, alloc, 0, 1, (others, before_others))?;
-    let unchanged = "ACK sip:b@192.0.2.9 SIP/2.0\r\nVia: SIP/2.0/UDP 192.0.2.1:5060;branch=z9hG4bK6a\r\nFrom: <sip:a@192.0.2.1>;tag=a\r\nTo: <sip:b@192.0.2.9>;tag=t\r\nCall-ID: 6\r\nCSeq: 1 ACK\r\n\r\n";
+    let unchanged =
+        "ACK sip:b@192.0.2.9 SIP/2.0\r\nVia: SIP/2.0/UDP 192.0.2.1:5060;branch=z9hG4bK6a\r\nFrom: <sip:a@192.0.2.1>;tag=a\r\nTo: <sip:b@192.0.2.9>;tag=t\r\nCall-ID: 6\r\nCSeq: 1 ACK\r\n\r\n";
     record_routes(&rt, alloc, 64, -2, ("", unchanged))?;
     Ok(())
 }
@@ -483,12 +636,19 @@ fn one_stateless_response_is_decided(rt: HostRuntime) -> Result<(), Fail> {
     let alloc = rt.alloc();
     let ack = routed(alloc, "")?;
     let mut of_run = facts(alloc, BlockKind::Request, "sip:x@y")?;
-    assert_eq!(rt; replied(&rt, alloc, ack.as_slice(), &mut of_run, b"Busy")?, -1);
+    assert_eq!(rt;
+        replied(&rt, alloc, ack.as_slice(), &mut of_run, b"Busy")?,
+        -1
+    );
     of_run.standing.exists = true;
     assert_eq!(rt; replied(&rt, alloc, REQUEST, &mut of_run, b"Busy")?, -1);
     of_run.standing.exists = false;
     for reason in ["a\rb", "a\nb", "a\r\nb: c", "\0"] {
-        assert_eq!(rt; replied(&rt, alloc, REQUEST, &mut of_run, reason.as_bytes())?, -3, "{reason:?}");
+        assert_eq!(rt;
+            replied(&rt, alloc, REQUEST, &mut of_run, reason.as_bytes())?,
+            -3,
+            "{reason:?}"
+        );
         assert!(rt; matches!(of_run.outcome, Outcome::Undecided));
     }
     assert_eq!(rt; replied(&rt, alloc, REQUEST, &mut of_run, b"Busy Here")?, 1);
@@ -511,7 +671,10 @@ fn a_response_has_8192_bytes_and_128_fields_at_most(rt: HostRuntime) -> Result<(
     for (len, code) in [(8192, 1), (8193, -3)] {
         let reason = vec![in alloc; b'x'; len - RESPONSE.len()]?;
         let mut of_run = facts(alloc, BlockKind::Request, "sip:x@y")?;
-        assert_eq!(rt; replied(&rt, alloc, REQUEST, &mut of_run, reason.as_slice())?, code);
+        assert_eq!(rt;
+            replied(&rt, alloc, REQUEST, &mut of_run, reason.as_slice())?,
+            code
+        );
     }
     // From, To, Call-ID, CSeq and Content-Length stand beside the Via fields
     for (vias, code) in [(123, 1), (124, -3)] {
@@ -521,7 +684,10 @@ fn a_response_has_8192_bytes_and_128_fields_at_most(rt: HostRuntime) -> Result<(
         }
         b.extend_from_slice(b"f: <sip:a>\r\nt: <sip:b>\r\ni: c\r\nCSeq: 1 BYE\r\n\r\n")?;
         let mut of_run = facts(alloc, BlockKind::Request, "sip:x@y")?;
-        assert_eq!(rt; replied(&rt, alloc, b.as_slice(), &mut of_run, b"Busy")?, code);
+        assert_eq!(rt;
+            replied(&rt, alloc, b.as_slice(), &mut of_run, b"Busy")?,
+            code
+        );
     }
     Ok(())
 }
