@@ -1,2 +1,6 @@
 pub mod Scan
 pub mod Runs
+pub mod Rings
+pub mod Levels
+pub mod Words
+pub mod Writes

@@ -1,2 +1,4 @@
 pub mod Timers
 pub mod Records
+pub mod Rings
+pub mod Levels

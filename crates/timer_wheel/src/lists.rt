@@ -1,0 +1,103 @@
+//! Lists of slots.
+//!
+//! Each list is a ring of links by number, with a head of its own, so a slot goes in and out of one in the same few writes
+//! wherever it stands. A slot that is in no list is a ring alone. A bit for each list tells whether it has slots.
+ghost use Rattle.std.specs.Prelude.{◌≡◌, ◌≢◌, ℕ, ◌^◌, ◌<◌, ◌≤◌, Some, None, Option, List, IfOk, IfSome, IfNone, length, replicate, slice_set, slice_get};
+ghost use Rattle.std.specs.List.{range_with_len};
+ghost use Rattle.timer_wheel.specs.Rings.{IsIn};
+
+use std::alloc::{AllocError as NoMemory, Global};
+use std::marker::Model;
+
+/// How many lists there are.
+pub const LISTS: usize = 2112;
+
+/// The number of bits of a word.
+const BITS: usize = 64;
+
+/// Slots from 0 up to a number that is fixed when this is made, each in one of the lists or in none. A clause sees the list of
+/// these by slot.
+#[derive(Drop)]
+pub struct Lists {
+    places: Vec<Option<u16>>,
+    next: Vec<usize>,
+    prev: Vec<usize>,
+    words: Vec<u64>,
+}
+
+impl Model for Lists {
+    ghost use Rattle.std.specs.Prelude.{List, Option, ℕ};
+    ghost use Rattle.timer_wheel.specs.Rings.{AreLists};
+
+    ghost Value = { List (Option ℕ) };
+
+    ghost view = { λ l. l.places.items };
+
+    ghost invariant = { λ l. (age : ℕ → ℕ) × AreLists l.places.items l.next.items l.prev.items l.words.items age };
+}
+
+impl Lists {
+    /// So many slots, none in a list.
+    pub fn new(alloc: Global, slots: u32) -> Result<Lists, NoMemory>
+        ensures { IfOk result (λ lists. lists ≡ replicate slots None) }
+    {
+        let nodes = slots as usize + LISTS;
+        let places = vec![in alloc; None; slots as usize]?;
+        let next = rings(alloc, nodes)?;
+        let prev = rings(alloc, nodes)?;
+        let words = vec![in alloc; 0; LISTS / BITS]?;
+        Ok(Lists {
+            places,
+            next,
+            prev,
+            words,
+        })
+    }
+
+    /// Takes the slot out of its list, if it is in one.
+    pub fn take_out(&mut self, slot: u32)
+        requires { slot < length self.old }
+        ensures { self.new ≡ slice_set self.old slot None }
+    {
+        let node = slot as usize;
+        let Some(list) = self.places[node] else {
+            return;
+        };
+        let prev = self.prev[node];
+        let next = self.next[node];
+        self.next[prev] = next;
+        self.prev[next] = prev;
+        self.next[node] = node;
+        self.prev[node] = node;
+        self.places[node] = None;
+        let list = list as usize;
+        let head = self.places.len() + list;
+        if self.next[head] == head {
+            self.words[list / BITS] &= !(1 << (list % BITS));
+        }
+    }
+
+    /// Puts the slot, which is in no list, at the end of this one.
+    pub fn put_in(&mut self, slot: u32, list: u16)
+        requires slot { slice_get self.old slot ≡ Some None }
+        requires list { list < 2112 }
+        ensures { self.new ≡ slice_set self.old slot (Some list) }
+    {
+        let node = slot as usize;
+        let head = self.places.len() + list as usize;
+        let prev = self.prev[head];
+        self.next[prev] = node;
+        self.next[node] = head;
+        self.prev[node] = prev;
+        self.prev[head] = node;
+        self.places[node] = Some(list);
+        self.words[list as usize / BITS] |= 1 << (list as usize % BITS);
+    }
+}
+
+/// So many nodes, each a ring alone.
+fn rings(alloc: Global, nodes: usize) -> Result<Vec<usize>, NoMemory>
+    ensures { IfOk result (λ links. links.items ≡ range_with_len 0 nodes) }
+{
+    (0..nodes).collect(alloc)
+}
