@@ -4,3 +4,4 @@ pub mod Rings
 pub mod Levels
 pub mod Words
 pub mod Writes
+pub mod Walks

@@ -187,7 +187,7 @@ module _ (slots nodes : ℕ) (next prev : ℕ → ℕ) (list : ℕ → Option �
 module _ (slots nodes : ℕ) (next prev : ℕ → ℕ) (list : ℕ → Option ℕ) (age : ℕ → ℕ) (within : slots ≤ nodes) (R : AreRings slots nodes next prev list age) (k : ℕ) where
 
   -- a node in the ring of list k is a slot of it, or its head
-  is_head : (i : ℕ) → slots ≤ i → list i ≡ Some k → i ≡ slots + k
+  pub is_head : (i : ℕ) → slots ≤ i → list i ≡ Some k → i ≡ slots + k
   is_head i l e = let f = R.head (i - slots) in let g : slots + (i - slots) ≡ i = omega arith in
       let h : list i ≡ Some (i - slots) = subst (λ x. list x ≡ Some (i - slots)) g f in
       let j : i - slots ≡ k = same_Some (i - slots) k (sym h ∙ e) in omega arith

@@ -2,10 +2,13 @@
 //!
 //! Each list is a ring of links by number, with a head of its own, so a slot goes in and out of one in the same few writes
 //! wherever it stands. A slot that is in no list is a ring alone. A bit for each list tells whether it has slots.
-ghost use Rattle.std.specs.Prelude.{◌≡◌, ◌≢◌, ℕ, ◌^◌, ◌<◌, ◌≤◌, Some, None, Option, List, IfOk, IfSome, IfNone, length, replicate, slice_set, slice_get};
+ghost use Rattle.std.specs.Prelude.{◌≡◌, ◌≢◌, ℕ, ◌^◌, ◌<◌, ◌≤◌, Some, None, Option, List, IfOk, IfSome, IfNone, IsTrue, ◌↔◌, MatchOption, length, replicate, slice_set, slice_get};
 ghost use Rattle.std.specs.List.{range_with_len};
 ghost use Rattle.timer_wheel.specs.Rings.{IsIn};
+ghost use Rattle.timer_wheel.specs.Timers.{GoesFirst};
+ghost use Rattle.timer_wheel.specs.Wheels.{IsFirstIn, NoTimerIn};
 
+use crate::wheel::Timer;
 use std::alloc::{AllocError as NoMemory, Global};
 use std::marker::Model;
 
@@ -92,6 +95,65 @@ impl Lists {
         self.prev[head] = node;
         self.places[node] = Some(list);
         self.words[list as usize / BITS] |= 1 << (list as usize % BITS);
+    }
+
+    /// The first list that has a slot.
+    pub fn first(&self) -> Option<u16>
+        ensures has_slots { IfSome result (λ list. (slot : ℕ) × IsIn self.now slot list) }
+        ensures least { IfSome result (λ list. (slot k : ℕ) → IsIn self.now slot k → list ≤ k) }
+        ensures none { IfNone result ((slot k : ℕ) → ¬ IsIn self.now slot k) }
+    {
+        for (at, &word) in self.words.iter().enumerate() {
+            if word != 0 {
+                return Some(at as u16 * BITS as u16 + word.trailing_zeros() as u16);
+            }
+        }
+        None
+    }
+
+    /// The slot that has been in the list for longest.
+    pub fn oldest(&self, list: u16) -> Option<u32>
+        requires { list < 2112 }
+        ensures is_in { IfSome result (λ slot. IsIn self.now slot list) }
+        ensures none { IfNone result ((slot : ℕ) → ¬ IsIn self.now slot list) }
+    {
+        let head = self.places.len() + list as usize;
+        let node = self.next[head];
+        if node == head { None } else { Some(node as u32) }
+    }
+
+    /// Of the timers of the slots in the list the one that goes off first, and its slot.
+    pub fn earliest(&self, list: u16, timers: &[Option<Timer>]) -> Option<(u32, Timer)>
+        requires list { list < 2112 }
+        requires timers { length timers.now ≡ length self.now }
+        ensures first { IfSome result (λ found. IsFirstIn self.now list timers.now found.0 found.1) }
+        ensures none { IfNone result (NoTimerIn self.now list timers.now) }
+    {
+        let head = self.places.len() + list as usize;
+        let mut found: Option<(u32, Timer)> = None;
+        let mut node = self.next[head];
+        for passed in 0..self.places.len() {
+            if node == head {
+                break;
+            }
+            if let Some(timer) = timers[node]
+                && goes_before(node as u32, timer, found)
+            {
+                found = Some((node as u32, timer));
+            }
+            node = self.next[node];
+        }
+        found
+    }
+}
+
+/// Whether the slot's timer goes off before the one that was found so far.
+pub fn goes_before(slot: u32, timer: Timer, found: Option<(u32, Timer)>) -> bool
+    ensures { MatchOption found (IsTrue result) (λ other. IsTrue result ↔ GoesFirst timer.due slot other.1.due other.0) }
+{
+    match found {
+        Some((other, earliest)) => timer.due < earliest.due || timer.due == earliest.due && slot <= other,
+        None => true,
     }
 }
 
