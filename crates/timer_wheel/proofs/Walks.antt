@@ -157,10 +157,10 @@ module _ (places : Places) (next prev words : List ℕ) (timers : Timers) (k pas
           (reached (length places) (length places + 2112) (λ i. get_or next i 0) (λ i. get_or prev i 0) (list_of places) w.age (omega arith) w.lists.rings k P
               (to (length places + k) (inl refl)) (λ i _ _ p. to i p) slot l (list_from_in places slot k e))
 
-goes_on : (due slot due' slot' due'' slot'' : ℕ) → GoesFirst due slot due' slot' → GoesFirst due' slot' due'' slot'' → GoesFirst due slot due'' slot''
+pub goes_on : (due slot due' slot' due'' slot'' : ℕ) → GoesFirst due slot due' slot' → GoesFirst due' slot' due'' slot'' → GoesFirst due slot due'' slot''
 goes_on due slot due' slot' due'' slot'' a b = grind arith
 
-goes_or : (due slot due' slot' : ℕ) → ¬ GoesFirst due slot due' slot' → GoesFirst due' slot' due slot
+pub goes_or : (due slot due' slot' : ℕ) → ¬ GoesFirst due slot due' slot' → GoesFirst due' slot' due slot
 goes_or due slot due' slot' n = ⊎_elim (λ l. inl l)
     (λ l. ⊎_elim (λ e. inr (e, ⊎_elim (λ m. absurd (n (inr (sym e, omega arith)))) (λ m. m) (cases_lt slot slot')))
         (λ e. absurd (n (inl (omega arith)))) (cases_eq due' due))

@@ -7,6 +7,7 @@
 #![tactic(auto)]
 
 pub mod laws;
+mod levels;
 mod lists;
 mod record;
 mod wheel;

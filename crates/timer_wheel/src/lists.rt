@@ -99,6 +99,7 @@ impl Lists {
 
     /// The first list that has a slot.
     pub fn first(&self) -> Option<u16>
+        ensures few { IfSome result (λ list. list < 2112) }
         ensures has_slots { IfSome result (λ list. (slot : ℕ) × IsIn self.now slot list) }
         ensures least { IfSome result (λ list. (slot k : ℕ) → IsIn self.now slot k → list ≤ k) }
         ensures none { IfNone result ((slot k : ℕ) → ¬ IsIn self.now slot k) }

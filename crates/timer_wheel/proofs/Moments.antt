@@ -130,3 +130,56 @@ list_at_lowest last now due a b m l =
     let g = low_level 7 last due (omega arith) in
     let h = same_level 7 last now f in let i = same_level 7 last due g in
     let j : due / 256 ≡ now / 256 = omega arith in let k = same_level 7 now due j in omega arith
+
+-- the search for the level of a moment, when it has come to this list
+pub record ComesTo (first_last first_due last due list : ℕ) : Type 0 where
+  pub levels : ℕ
+  pub some : 0 < levels
+  pub last_within : last < 256 ^ levels
+  pub due_within : due < 256 ^ levels
+  pub rising : last ≤ due
+  pub lists_left : list + 256 * levels ≡ 2112
+  pub is : 64 + level_list 8 first_last first_due ≡ list + level_list levels last due
+
+pub starts_at : (last due : ℕ) → last < 2 ^ 64 → due < 2 ^ 64 → last ≤ due → ComesTo last due last due 64
+starts_at last due a b l = record { levels = 8; some = omega arith; last_within = a; due_within = b; rising = l; lists_left = refl; is = refl }
+
+more_levels : (n last due : ℕ) → 0 < n → last ≤ due → due < 256 ^ n → due / 256 ≢ last / 256 → (m : ℕ) × (n ≡ suc (suc m))
+more_levels zero last due s r l n = absurd (omega arith)
+more_levels (suc zero) last due s r l n = absurd (n (omega arith))
+more_levels (suc (suc m)) last due s r l n = (m, refl)
+
+module _ (first_last first_due last due list : ℕ) (c : ComesTo first_last first_due last due list) where
+  pub goes_up : due / 256 ≢ last / 256 → ComesTo first_last first_due (last / 256) (due / 256) (list + 256)
+  goes_up n =
+      let m = more_levels c.levels last due c.some c.rising c.due_within n in
+      let a : last < 256 ^ suc m.0 * 256 = subst (λ x. last < x) (ap (λ x. 256 ^ x) m.1 ∙ pow-suc 256 (suc m.0)) c.last_within in
+      let b : due < 256 ^ suc m.0 * 256 = subst (λ x. due < x) (ap (λ x. 256 ^ x) m.1 ∙ pow-suc 256 (suc m.0)) c.due_within in
+      let r = c.rising in let left = c.lists_left in let e = m.1 in
+      let is : 64 + level_list 8 first_last first_due ≡ list + level_list (suc (suc m.0)) last due = c.is ∙ ap (λ x. list + level_list x last due) m.1 in
+      let up = next_level (suc m.0) last due n in
+      record {
+        levels = suc m.0;
+        some = omega arith;
+        last_within = omega arith;
+        due_within = omega arith;
+        rising = quotient_rises last due r;
+        lists_left = omega arith;
+        is = is ∙ (ap (λ x. list + x) up ∙ omega arith);
+      }
+
+  pub list_few : list ≤ 1856
+  list_few = let a = c.some in let b = c.lists_left in omega arith
+
+  lowest_of : (n : ℕ) → c.levels ≡ n → 0 < n → due / 256 ≡ last / 256 → 64 + level_list 8 first_last first_due ≡ list + due % 256
+  lowest_of zero e s f = absurd (omega arith)
+  lowest_of (suc n) e s f = c.is ∙ (ap (λ x. list + level_list x last due) e ∙ ap (λ x. list + x) (same_level n last due f))
+
+  pub found_list : first_last ≤ first_due → due / 256 ≡ last / 256 → list + due % 256 ≡ list_at first_last first_due
+  found_list r f = sym (lowest_of c.levels refl c.some f) ∙ sym (from_last first_last first_due r)
+
+  pub found_few : list + due % 256 < 2112
+  found_few = let a = c.some in let b = c.lists_left in omega arith
+
+pub is_overdue : (last due : ℕ) → due < last → 0 ≡ list_at last due
+is_overdue last due l = sym (before last due l)
