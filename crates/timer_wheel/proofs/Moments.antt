@@ -22,9 +22,9 @@ level_list_rises zero last due later a b = omega arith
 level_list_rises (suc n) last due later a b =
     let q = quotient_rises last due a in let r = quotient_rises due later b in
     by_level (λ x. x ≤ level_list (suc n) last later) n last due
-        (λ e. by_level (λ y. due % 256 ≤ y) n last later (λ f. omega arith) (λ f. omega arith))
-        (λ e. by_level (λ y. 256 + level_list n (last / 256) (due / 256) ≤ y) n last later (λ f. absurd (omega arith))
-            (λ f. let h = level_list_rises n (last / 256) (due / 256) (later / 256) q r in omega arith))
+    (λ e. by_level (λ y. due % 256 ≤ y) n last later (λ f. omega arith) (λ f. omega arith))
+    (λ e. by_level (λ y. 256 + level_list n (last / 256) (due / 256) ≤ y) n last later (λ f. absurd (omega arith))
+    (λ f. let h = level_list_rises n (last / 256) (due / 256) (later / 256) q r in omega arith))
 
 -- a moment that stands in another list than `now` does from `last` on, stands in the same list from `now` on
 pub level_list_stays : (n last now due : ℕ) → last ≤ now → now ≤ due → level_list n last due ≢ level_list n last now → level_list n now due ≡ level_list n last due
@@ -32,19 +32,19 @@ level_list_stays zero last now due a b m = refl
 level_list_stays (suc n) last now due a b m =
     let q = quotient_rises last now a in let r = quotient_rises now due b in
     ⊎_elim
-        (λ e. ⊎_elim
-            (λ f. same_level n now due f ∙ sym (same_level n last due (f ∙ e)))
-            (λ f. next_level n now due f ∙ (ap (λ x. 256 + level_list n x (due / 256)) e ∙ sym (next_level n last due (λ g. f (g ∙ sym e)))))
-            (cases_eq (due / 256) (now / 256)))
-        (λ e.
-            let g : due / 256 ≢ last / 256 = λ h. e (omega arith) in
-            let one = next_level n last due g in let two = next_level n last now e in
-            ⊎_elim
-            (λ f. absurd (m (one ∙ (ap (λ x. 256 + level_list n (last / 256) x) f ∙ sym two))))
-            (λ f. let h = level_list_stays n (last / 256) (now / 256) (due / 256) q r (λ i. m (one ∙ (ap (λ x. 256 + x) i ∙ sym two))) in
-                next_level n now due f ∙ (ap (λ x. 256 + x) h ∙ sym one))
-            (cases_eq (due / 256) (now / 256)))
-        (cases_eq (now / 256) (last / 256))
+    (λ e. ⊎_elim
+    (λ f. same_level n now due f ∙ sym (same_level n last due (f ∙ e)))
+    (λ f. next_level n now due f ∙ (ap (λ x. 256 + level_list n x (due / 256)) e ∙ sym (next_level n last due (λ g. f (g ∙ sym e)))))
+    (cases_eq (due / 256) (now / 256)))
+    (λ e.
+    let g : due / 256 ≢ last / 256 = λ h. e (omega arith) in
+    let one = next_level n last due g in let two = next_level n last now e in
+    ⊎_elim
+    (λ f. absurd (m (one ∙ (ap (λ x. 256 + level_list n (last / 256) x) f ∙ sym two))))
+    (λ f. let h = level_list_stays n (last / 256) (now / 256) (due / 256) q r (λ i. m (one ∙ (ap (λ x. 256 + x) i ∙ sym two))) in
+    next_level n now due f ∙ (ap (λ x. 256 + x) h ∙ sym one))
+    (cases_eq (due / 256) (now / 256)))
+    (cases_eq (now / 256) (last / 256))
 
 low_level : (n last due : ℕ) → level_list (suc n) last due < 256 → due / 256 ≡ last / 256
 low_level n last due l = ⊎_elim (λ e. e) (λ e. absurd (let f = next_level n last due e in omega arith)) (cases_eq (due / 256) (last / 256))
@@ -64,19 +64,19 @@ level_list_falls (suc n) last now due a b m l z =
     let q = quotient_rises last now a in let r = quotient_rises now due b in
     let y : due < 256 ^ n * 256 = subst (λ x. due < x) (pow-suc 256 n) z in let w : due / 256 < 256 ^ n = omega arith in
     ⊎_elim
-        (λ e. absurd (let f = same_level n last now e in omega arith))
-        (λ e.
-            let g : due / 256 ≢ last / 256 = λ h. e (omega arith) in
-            let one = next_level n last due g in let two = next_level n last now e in
-            ⊎_elim
-            (λ f. let h = same_level n now due f in omega arith)
-            (λ f. let h = next_level n now due f in let same : level_list n (last / 256) (due / 256) ≡ level_list n (last / 256) (now / 256) = omega arith in
-                ⊎_elim
-                (λ low. absurd (f (low_is_one n (last / 256) (now / 256) (due / 256) q r same low w)))
-                (λ high. let i = level_list_falls n (last / 256) (now / 256) (due / 256) q r same high w in omega arith)
-                (cases_lt (level_list n (last / 256) (now / 256)) 256))
-            (cases_eq (due / 256) (now / 256)))
-        (cases_eq (now / 256) (last / 256))
+    (λ e. absurd (let f = same_level n last now e in omega arith))
+    (λ e.
+    let g : due / 256 ≢ last / 256 = λ h. e (omega arith) in
+    let one = next_level n last due g in let two = next_level n last now e in
+    ⊎_elim
+    (λ f. let h = same_level n now due f in omega arith)
+    (λ f. let h = next_level n now due f in let same : level_list n (last / 256) (due / 256) ≡ level_list n (last / 256) (now / 256) = omega arith in
+    ⊎_elim
+    (λ low. absurd (f (low_is_one n (last / 256) (now / 256) (due / 256) q r same low w)))
+    (λ high. let i = level_list_falls n (last / 256) (now / 256) (due / 256) q r same high w in omega arith)
+    (cases_lt (level_list n (last / 256) (now / 256)) 256))
+    (cases_eq (due / 256) (now / 256)))
+    (cases_eq (now / 256) (last / 256))
 
 -- so many levels have so many lists
 pub level_list_within : (n last due : ℕ) → last < 256 ^ suc n → due < 256 ^ suc n → level_list (suc n) last due < 256 * suc n

@@ -50,8 +50,8 @@ module _ (timers : Timers) (places : Places) (last : ℕ) (known : Option (ℕ �
         let own : list_at last timer.due ≡ k = ap (λ (t : Timer). list_at last t.due) (sym same) ∙ its.2 in
         let there = in_its_list j other h in let le = least j (list_at last other.due) there in
         ⊎_elim (λ e. first.goes_first j other (subst (IsIn places j) (sym e) there) h)
-            (λ n. inl (list_at_tells last timer.due other.due (omega arith)))
-            (cases_eq k (list_at last other.due));
+        (λ n. inl (list_at_tells last timer.due other.due (omega arith)))
+        (cases_eq k (list_at last other.due));
   }
 
   pub idle_lists : ((s j : ℕ) → ¬ IsIn places s j) → IsIdle timers
@@ -102,7 +102,7 @@ module _ (timers : Timers) (places : Places) (last : ℕ) (known : Option (ℕ �
     many = W.many;
     placed = λ slot l. let p = W.placed slot l in
         ⊎_elim (λ e. inl (p ∙ e, e)) (λ e. inr (p ∙ e.0, λ f. e.1 (sym p ∙ f)))
-            (placed_at (get_or timers slot None) (λ timer e. none_before slot timer (slice_get-get_or timers slot None l ∙ ap (λ (x : Option Timer). Some x) e)));
+        (placed_at (get_or timers slot None) (λ timer e. none_before slot timer (slice_get-get_or timers slot None l ∙ ap (λ (x : Option Timer). Some x) e)));
     known_first = W.known_first;
   }
 
@@ -156,8 +156,10 @@ module _ (timers : Timers) (places : Places) (last now list : ℕ) (known : Opti
       few = T.few;
       many = length-set places slot place ∙ T.many;
       placed = λ s l. ⊎_elim
-          (λ e. inr (ap (λ x. get_or (set places slot place) x None) e ∙ (same ∙ (is ∙ ap (λ x. list_by now (get_or timers x None)) (sym e))),
-              λ f. other (sym same ∙ (ap (λ x. get_or (set places slot place) x None) (sym e) ∙ f))))
+          (λ e. inr (
+            ap (λ x. get_or (set places slot place) x None) e ∙ (same ∙ (is ∙ ap (λ x. list_by now (get_or timers x None)) (sym e))),
+            λ f. other (sym same ∙ (ap (λ x. get_or (set places slot place) x None) (sym e) ∙ f)),
+          ))
           (λ n. let o = get_or-set_other places slot s place None n in ⊎_elim (λ e. inl (o ∙ e.0, e.1)) (λ e. inr (o ∙ e.0, λ f. e.1 (sym o ∙ f))) (T.placed s l))
           (cases_eq s slot);
       known_first = T.known_first;
@@ -175,8 +177,8 @@ module _ (timers : Timers) (places : Places) (last now list : ℕ) (known : Opti
         → ◌≢◌ {A = Option ℕ} (Some (list_at now timer.due)) (Some list)
     turns_away timer is later after fits of_now high e = ⊎_elim
         (λ p. let here : list_at last timer.due ≡ list = same_Some (list_at last timer.due) list (sym (ap (list_by last) is) ∙ p.1) in
-            let falls = list_at_falls last now timer.due later after (here ∙ of_now) (omega arith) fits in
-            let same = same_Some (list_at now timer.due) list e in omega arith)
+        let falls = list_at_falls last now timer.due later after (here ∙ of_now) (omega arith) fits in
+        let same = same_Some (list_at now timer.due) list e in omega arith)
         (λ p. p.1 its_place) (T.placed slot turning_slot)
 
 pub no_place : (list : ℕ) → ◌≢◌ {A = Option ℕ} None (Some list)
@@ -193,7 +195,7 @@ first_stays timers first slot timer l n before is = record {
   is_set = slice_get_other timers slot first.0 (Some timer) n ∙ is.is_set;
   goes_first = λ k other h. ⊎_elim
       (λ e. let same : timer ≡ other = same_Some timer other (same_Some (Some timer) (Some other) (sym (slice_get_new timers slot (Some timer) l) ∙ subst (λ x. HasTimer (set timers slot (Some timer)) x other) e h)) in
-          subst (λ x. GoesFirst first.1.due first.0 other.due x) (sym e) (subst (λ (t : Timer). GoesFirst first.1.due first.0 t.due slot) same before))
+      subst (λ x. GoesFirst first.1.due first.0 other.due x) (sym e) (subst (λ (t : Timer). GoesFirst first.1.due first.0 t.due slot) same before))
       (λ m. is.goes_first k other (sym (slice_get_other timers slot k (Some timer) m) ∙ h))
       (cases_eq k slot);
 }

@@ -36,12 +36,10 @@ pub record PutsIn (s h k : ℕ) (next prev : ℕ → ℕ) (list : ℕ → Option
   pub list_others : (i : ℕ) → i ≢ s → list' i ≡ list i
 
 module _ (slots nodes : ℕ) (next prev : ℕ → ℕ) (list : ℕ → Option ℕ) (age : ℕ → ℕ) (within : slots ≤ nodes) (R : AreRings slots nodes next prev list age) where
-
   list_prev : (i : ℕ) → i < nodes → list (prev i) ≡ list i
   list_prev i lt = sym (R.one_list (prev i) (R.prev_within i lt)) ∙ ap list (R.forth i lt)
 
   module _ (s : ℕ) (lt : s < slots) (next' prev' : ℕ → ℕ) (list' : ℕ → Option ℕ) (t : TakesOut s next prev list next' prev' list') where
-
     inside : s < nodes
     inside = omega arith
 
@@ -68,16 +66,16 @@ module _ (slots nodes : ℕ) (next prev : ℕ → ℕ) (list : ℕ → Option �
     by_next P i a b c = ⊎_elim
         (λ e. let f : next' i ≡ s = ap next' e ∙ t.next_alone in subst (λ y. P i y) (sym f) (subst (λ x. P x s) (sym e) a))
         (λ n. ⊎_elim
-            (λ e. let m : prev s ≢ s = λ q. n (e ∙ q) in let f : next' i ≡ next s = ap next' e ∙ t.next_past m in subst (λ y. P i y) (sym f) (subst (λ x. P x (next s)) (sym e) (b m)))
-            (λ m. subst (λ y. P i y) (sym (t.next_others i n m)) (c n m)) (cases_eq i (prev s)))
+        (λ e. let m : prev s ≢ s = λ q. n (e ∙ q) in let f : next' i ≡ next s = ap next' e ∙ t.next_past m in subst (λ y. P i y) (sym f) (subst (λ x. P x (next s)) (sym e) (b m)))
+        (λ m. subst (λ y. P i y) (sym (t.next_others i n m)) (c n m)) (cases_eq i (prev s)))
         (cases_eq i s)
 
     by_prev : (P : ℕ → ℕ → Type 0) (i : ℕ) → P s s → (next s ≢ s → P (next s) (prev s)) → (i ≢ s → i ≢ next s → P i (prev i)) → P i (prev' i)
     by_prev P i a b c = ⊎_elim
         (λ e. let f : prev' i ≡ s = ap prev' e ∙ t.prev_alone in subst (λ y. P i y) (sym f) (subst (λ x. P x s) (sym e) a))
         (λ n. ⊎_elim
-            (λ e. let m : next s ≢ s = λ q. n (e ∙ q) in let f : prev' i ≡ prev s = ap prev' e ∙ t.prev_past m in subst (λ y. P i y) (sym f) (subst (λ x. P x (prev s)) (sym e) (b m)))
-            (λ m. subst (λ y. P i y) (sym (t.prev_others i n m)) (c n m)) (cases_eq i (next s)))
+        (λ e. let m : next s ≢ s = λ q. n (e ∙ q) in let f : prev' i ≡ prev s = ap prev' e ∙ t.prev_past m in subst (λ y. P i y) (sym f) (subst (λ x. P x (prev s)) (sym e) (b m)))
+        (λ m. subst (λ y. P i y) (sym (t.prev_others i n m)) (c n m)) (cases_eq i (next s)))
         (cases_eq i s)
 
     pub rings_take_out : AreRings slots nodes next' prev' list' age
@@ -100,14 +98,13 @@ module _ (slots nodes : ℕ) (next prev : ℕ → ℕ) (list : ℕ → Option �
       older = λ i k l is. by_prev (λ x y. x < slots → list' x ≡ Some k → y < slots → age y < age x) i
           (λ _ e _. absurd (none-some k (sym t.list_none ∙ e)))
           (λ m q e p. let of_next = sym (t.list_others (next s) m) ∙ e in let of_s : list s ≡ Some k = sym (R.one_list s inside) ∙ of_next in
-              let b = R.back s inside in
-              let one = R.older s k lt of_s p in let two = R.older (next s) k q of_next (subst (λ x. x < slots) (sym b) lt) in
-              let three : age s < age (next s) = subst (λ x. age x < age (next s)) b two in omega arith)
+          let b = R.back s inside in
+          let one = R.older s k lt of_s p in let two = R.older (next s) k q of_next (subst (λ x. x < slots) (sym b) lt) in
+          let three : age s < age (next s) = subst (λ x. age x < age (next s)) b two in omega arith)
           (λ n m q e p. R.older i k q (sym (t.list_others i n) ∙ e) p) l is;
     }
 
   module _ (s k : ℕ) (lt : s < slots) (k_lt : slots + k < nodes) (is_alone : list s ≡ None) where
-
     at_s : s < nodes
     at_s = omega arith
 
@@ -146,16 +143,16 @@ module _ (slots nodes : ℕ) (next prev : ℕ → ℕ) (list : ℕ → Option �
       via_next P i a b c = ⊎_elim
           (λ e. let f : next' i ≡ slots + k = ap next' e ∙ t.next_new in subst (λ y. P i y) (sym f) (subst (λ x. P x (slots + k)) (sym e) a))
           (λ n. ⊎_elim
-              (λ e. let f : next' i ≡ s = ap next' e ∙ t.next_last in subst (λ y. P i y) (sym f) (subst (λ x. P x s) (sym e) b))
-              (λ m. subst (λ y. P i y) (sym (t.next_others i n m)) (c n m)) (cases_eq i (prev (slots + k))))
+          (λ e. let f : next' i ≡ s = ap next' e ∙ t.next_last in subst (λ y. P i y) (sym f) (subst (λ x. P x s) (sym e) b))
+          (λ m. subst (λ y. P i y) (sym (t.next_others i n m)) (c n m)) (cases_eq i (prev (slots + k))))
           (cases_eq i s)
 
       via_prev : (P : ℕ → ℕ → Type 0) (i : ℕ) → P s (prev (slots + k)) → P (slots + k) s → (i ≢ s → i ≢ slots + k → P i (prev i)) → P i (prev' i)
       via_prev P i a b c = ⊎_elim
           (λ e. let f : prev' i ≡ prev (slots + k) = ap prev' e ∙ t.prev_new in subst (λ y. P i y) (sym f) (subst (λ x. P x (prev (slots + k))) (sym e) a))
           (λ n. ⊎_elim
-              (λ e. let f : prev' i ≡ s = ap prev' e ∙ t.prev_head in subst (λ y. P i y) (sym f) (subst (λ x. P x s) (sym e) b))
-              (λ m. subst (λ y. P i y) (sym (t.prev_others i n m)) (c n m)) (cases_eq i (slots + k)))
+          (λ e. let f : prev' i ≡ s = ap prev' e ∙ t.prev_head in subst (λ y. P i y) (sym f) (subst (λ x. P x s) (sym e) b))
+          (λ m. subst (λ y. P i y) (sym (t.prev_others i n m)) (c n m)) (cases_eq i (slots + k)))
           (cases_eq i s)
 
       pub rings_put_in : AreRings slots nodes next' prev' list' aged
@@ -179,13 +176,12 @@ module _ (slots nodes : ℕ) (next prev : ℕ → ℕ) (list : ℕ → Option �
             (λ _ _ _. let a = changed_same age s (suc (age (prev (slots + k)))) in let b = changed_other age s (suc (age (prev (slots + k)))) (prev (slots + k)) last_apart in omega (arith, a, b))
             (λ q _ _. absurd (omega arith))
             (λ n m q e p. let a = changed_other age s (suc (age (prev (slots + k)))) i n in
-                let b = changed_other age s (suc (age (prev (slots + k)))) (prev i) (before_apart i (omega arith) n) in
-                let c = R.older i j q (sym (t.list_others i n) ∙ e) p in omega (arith, a, b, c)) l is;
+            let b = changed_other age s (suc (age (prev (slots + k)))) (prev i) (before_apart i (omega arith) n) in
+            let c = R.older i j q (sym (t.list_others i n) ∙ e) p in omega (arith, a, b, c)) l is;
       }
 
 -- the slots of a list are in the ring of its head
 module _ (slots nodes : ℕ) (next prev : ℕ → ℕ) (list : ℕ → Option ℕ) (age : ℕ → ℕ) (within : slots ≤ nodes) (R : AreRings slots nodes next prev list age) (k : ℕ) where
-
   -- a node in the ring of list k is a slot of it, or its head
   pub is_head : (i : ℕ) → slots ≤ i → list i ≡ Some k → i ≡ slots + k
   is_head i l e = let f = R.head (i - slots) in let g : slots + (i - slots) ≡ i = omega arith in
@@ -201,9 +197,9 @@ module _ (slots nodes : ℕ) (next prev : ℕ → ℕ) (list : ℕ → Option �
       let p_in = R.prev_within i i_in in
       let same : list (prev i) ≡ Some k = list_prev slots nodes next prev list age within R i i_in ∙ e in
       subst P (R.forth i i_in) (⊎_elim
-          (λ p. step (prev i) p same (reached_below P first step bound (prev i) (let o = R.older i k l e p in omega arith) p same))
-          (λ p. subst (λ x. P (next x)) (sym (is_head (prev i) p same)) first)
-          (cases_lt (prev i) slots))
+      (λ p. step (prev i) p same (reached_below P first step bound (prev i) (let o = R.older i k l e p in omega arith) p same))
+      (λ p. subst (λ x. P (next x)) (sym (is_head (prev i) p same)) first)
+      (cases_lt (prev i) slots))
 
   pub reached : (P : ℕ → Type 0) → P (next (slots + k)) → ((i : ℕ) → i < slots → list i ≡ Some k → P i → P (next i))
       → (i : ℕ) → i < slots → list i ≡ Some k → P i

@@ -100,7 +100,6 @@ module _ (places : Places) (next prev words : List ℕ) (age : ℕ → ℕ) (L :
 
 module _ (places : Places) (next prev words : List ℕ) (timers : Timers) (k passed node : ℕ) (found : Option (ℕ × Timer)) (k_lt : k < 2112)
     (w : HasPassed places next prev words timers k passed node found) where
-
   pub is_end : length places ≤ node → node ≡ length places + k
   is_end l = is_head (length places) (length places + 2112) (λ i. get_or next i 0) (λ i. get_or prev i 0) (list_of places) w.age (omega arith) w.lists.rings k node l w.its_list
 
@@ -120,7 +119,7 @@ module _ (places : Places) (next prev words : List ℕ) (timers : Timers) (k pas
   pub all_passed : passed ≡ length places → node ≡ length places + k
   all_passed e = is_end (⊎_elim
       (λ l. absurd (let m = length-le_from_distinct_below (w.seen ++ node ∷ []) (length places) (more_apart l) (λ q f. (more_slots l q f).0) in
-          let n = length-append w.seen (node ∷ []) in let o = w.many in omega arith))
+      let n = length-append w.seen (node ∷ []) in let o = w.many in omega arith))
       (λ l. l) (cases_lt node (length places)))
 
   pub moves : (found' : Option (ℕ × Timer)) → node ≢ length places + k → IsBest places k timers (w.seen ++ node ∷ []) found'
@@ -140,8 +139,8 @@ module _ (places : Places) (next prev words : List ℕ) (timers : Timers) (k pas
     onward = λ q c. ⊎_elim
         (λ e. ⊎_elim (λ f. inr (subst (Among (w.seen ++ node ∷ [])) (sym f) (push_new w.seen node))) (λ f. inr (push_old w.seen node (get_or next q 0) f)) (w.onward q (inl e)))
         (λ e. ⊎_elim
-            (λ f. ⊎_elim (λ g. inr (subst (Among (w.seen ++ node ∷ [])) (sym g) (push_new w.seen node))) (λ g. inr (push_old w.seen node (get_or next q 0) g)) (w.onward q (inr f)))
-            (λ f. inl (ap (λ x. get_or next x 0) f)) (push_cases w.seen node q e)) c;
+        (λ f. ⊎_elim (λ g. inr (subst (Among (w.seen ++ node ∷ [])) (sym g) (push_new w.seen node))) (λ g. inr (push_old w.seen node (get_or next q 0) g)) (w.onward q (inr f)))
+        (λ f. inl (ap (λ x. get_or next x 0) f)) (push_cases w.seen node q e)) c;
     here = w.lists.rings.next_within node node_in;
     its_list = w.lists.rings.one_list node node_in ∙ w.its_list;
     best = best;
@@ -154,8 +153,8 @@ module _ (places : Places) (next prev words : List ℕ) (timers : Timers) (k pas
       let P : ℕ → Type 0 = λ i. (i ≡ length places + k) ⊎ Among w.seen i in
       let to : (i : ℕ) → (i ≡ length places + k) ⊎ Among w.seen i → P (get_or next i 0) = λ i c. ⊎_elim (λ f. inl (f ∙ end)) (λ f. inr f) (w.onward i c) in
       ⊎_elim (λ f. absurd (omega arith)) (λ f. f)
-          (reached (length places) (length places + 2112) (λ i. get_or next i 0) (λ i. get_or prev i 0) (list_of places) w.age (omega arith) w.lists.rings k P
-              (to (length places + k) (inl refl)) (λ i _ _ p. to i p) slot l (list_from_in places slot k e))
+      (reached (length places) (length places + 2112) (λ i. get_or next i 0) (λ i. get_or prev i 0) (list_of places) w.age (omega arith) w.lists.rings k P
+      (to (length places + k) (inl refl)) (λ i _ _ p. to i p) slot l (list_from_in places slot k e))
 
 pub goes_on : (due slot due' slot' due'' slot'' : ℕ) → GoesFirst due slot due' slot' → GoesFirst due' slot' due'' slot'' → GoesFirst due slot due'' slot''
 goes_on due slot due' slot' due'' slot'' a b = grind arith
@@ -163,7 +162,7 @@ goes_on due slot due' slot' due'' slot'' a b = grind arith
 pub goes_or : (due slot due' slot' : ℕ) → ¬ GoesFirst due slot due' slot' → GoesFirst due' slot' due slot
 goes_or due slot due' slot' n = ⊎_elim (λ l. inl l)
     (λ l. ⊎_elim (λ e. inr (e, ⊎_elim (λ m. absurd (n (inr (sym e, omega arith)))) (λ m. m) (cases_lt slot slot')))
-        (λ e. absurd (n (inl (omega arith)))) (cases_eq due' due))
+    (λ e. absurd (n (inl (omega arith)))) (cases_eq due' due))
     (cases_lt due' due)
 
 timer_at : (timers : Timers) (node : ℕ) (timer : Option Timer) (other : Timer) → get_or timers node None ≡ timer → HasTimer timers node other → timer ≡ Some other
@@ -180,8 +179,12 @@ module _ (places : Places) (k : ℕ) (timers : Timers) (seen : List ℕ) (node :
   -- the next slot has no timer
   pub best_without : (found : Option (ℕ × Timer)) → get_or timers node None ≡ None → IsBest places k timers seen found → IsBest places k timers (seen ++ node ∷ []) found
   best_without None is best = λ q timer e h. ⊎_elim (λ f. best q timer f h) (λ f. none-some timer (timer_at timers node None timer is (subst (λ x. HasTimer timers x timer) f h))) (push_cases seen node q e)
-  best_without (Some p) is best = (best.0, best.1, λ q other e h. ⊎_elim (λ f. best.2 q other f h)
-      (λ f. absurd (none-some other (timer_at timers node None other is (subst (λ x. HasTimer timers x other) f h)))) (push_cases seen node q e))
+  best_without (Some p) is best = (
+    best.0,
+    best.1,
+    λ q other e h. ⊎_elim (λ f. best.2 q other f h)
+        (λ f. absurd (none-some other (timer_at timers node None other is (subst (λ x. HasTimer timers x other) f h)))) (push_cases seen node q e),
+  )
 
   at_node : (timer : Timer) → get_or timers node None ≡ Some timer → (q : ℕ) (other : Timer) → q ≡ node → HasTimer timers q other → timer ≡ other
   at_node timer is q other e h = same_Some timer other (timer_at timers node (Some timer) other is (subst (λ x. HasTimer timers x other) e h))
@@ -189,20 +192,32 @@ module _ (places : Places) (k : ℕ) (timers : Timers) (seen : List ℕ) (node :
   -- its timer goes off before what was found
   pub best_new : (timer : Timer) (found : Option (ℕ × Timer)) → get_or timers node None ≡ Some timer → node < length timers → IsIn places node k → GoesBefore node timer found true
       → IsBest places k timers seen found → IsBest places k timers (seen ++ node ∷ []) (Some (node, timer))
-  best_new timer None is l placed before best = (placed, has_timer timers node timer l is, λ q other e h. ⊎_elim (λ f. absurd (best q other f h))
-      (λ f. inr (ap (λ (x : Timer). x.due) (at_node timer is q other f h), omega arith)) (push_cases seen node q e))
-  best_new timer (Some p) is l placed before best = (placed, has_timer timers node timer l is, λ q other e h. ⊎_elim
-      (λ f. goes_on timer.due node p.1.due p.0 other.due q (before.0 refl) (best.2 q other f h))
-      (λ f. inr (ap (λ (x : Timer). x.due) (at_node timer is q other f h), omega arith)) (push_cases seen node q e))
+  best_new timer None is l placed before best = (
+    placed,
+    has_timer timers node timer l is,
+    λ q other e h. ⊎_elim (λ f. absurd (best q other f h))
+        (λ f. inr (ap (λ (x : Timer). x.due) (at_node timer is q other f h), omega arith)) (push_cases seen node q e),
+  )
+  best_new timer (Some p) is l placed before best = (
+    placed,
+    has_timer timers node timer l is,
+    λ q other e h. ⊎_elim
+        (λ f. goes_on timer.due node p.1.due p.0 other.due q (before.0 refl) (best.2 q other f h))
+        (λ f. inr (ap (λ (x : Timer). x.due) (at_node timer is q other f h), omega arith)) (push_cases seen node q e),
+  )
 
   -- it doesn't
   pub best_old : (timer : Timer) (found : Option (ℕ × Timer)) → get_or timers node None ≡ Some timer → GoesBefore node timer found false
       → IsBest places k timers seen found → IsBest places k timers (seen ++ node ∷ []) found
   best_old timer None is before best = absurd (false≢true before)
-  best_old timer (Some p) is before best = (best.0, best.1, λ q other e h. ⊎_elim (λ f. best.2 q other f h)
-      (λ f. let same = ap (λ (x : Timer). x.due) (at_node timer is q other f h) in
-          subst (λ x. GoesFirst p.1.due p.0 other.due x) (sym f) (subst (λ x. GoesFirst p.1.due p.0 x node) same (goes_or timer.due node p.1.due p.0 (λ g. false≢true (before.1 g)))))
-      (push_cases seen node q e))
+  best_old timer (Some p) is before best = (
+    best.0,
+    best.1,
+    λ q other e h. ⊎_elim (λ f. best.2 q other f h)
+        (λ f. let same = ap (λ (x : Timer). x.due) (at_node timer is q other f h) in
+        subst (λ x. GoesFirst p.1.due p.0 other.due x) (sym f) (subst (λ x. GoesFirst p.1.due p.0 x node) same (goes_or timer.due node p.1.due p.0 (λ g. false≢true (before.1 g)))))
+        (push_cases seen node q e),
+  )
 
 module _ (places : Places) (next prev words : List ℕ) (timers : Timers) (k passed node : ℕ) (k_lt : k < 2112) (end : node ≡ length places + k) where
   pub found_first : (p : ℕ × Timer) → HasPassed places next prev words timers k passed node (Some p) → IsFirstIn places k timers p.0 p.1
@@ -246,14 +261,14 @@ module _ (places : Places) (next prev words : List ℕ) (age : ℕ → ℕ) (L :
     first_has = let b = bits_of.0 in let t = trailing_zeros w64 w in
         let q : (at * 64 + t) / 64 ≡ at = omega arith in let r : (at * 64 + t) % 64 ≡ t = omega arith in
         let told : bit_at (get_or words ((at * 64 + t) / 64) 0) ((at * 64 + t) % 64) ≡ 1 =
-            ap (λ x. bit_at (get_or words x 0) ((at * 64 + t) % 64)) q ∙ (ap (λ x. bit_at (get_or words at 0) x) r ∙ (ap (λ x. bit_at x t) (sym is) ∙ bits_of.1)) in
+        ap (λ x. bit_at (get_or words x 0) ((at * 64 + t) % 64)) q ∙ (ap (λ x. bit_at (get_or words at 0) x) r ∙ (ap (λ x. bit_at x t) (sym is) ∙ bits_of.1)) in
         (get_or next (length places + (at * 64 + t)) 0, (front_slot places next prev words age L (at * 64 + t) first_few ((L.told (at * 64 + t) first_few).0 told)).1)
 
     pub first_least : (slot k : ℕ) → IsIn places slot k → at * 64 + trailing_zeros w64 w ≤ k
     first_least slot k e = let b = bits_of.0 in let h = has_bit slot k e in ⊎_elim
         (λ l. ⊎_elim
-            (λ m. absurd (let z = ap (λ x. bit_at x (k % 64)) (none (k / 64) m) ∙ bit_at-zero (k % 64) in omega arith))
-            (λ m. let q : k / 64 ≡ at = omega arith in let r : k % 64 < trailing_zeros w64 w = omega arith in
-                absurd (let z : bit_at (get_or words (k / 64) 0) (k % 64) ≡ 0 = ap (λ x. bit_at x (k % 64)) (ap (λ x. get_or words x 0) q ∙ sym is) ∙ bits_of.2 (k % 64) r in omega arith))
-            (cases_lt (k / 64) at))
+        (λ m. absurd (let z = ap (λ x. bit_at x (k % 64)) (none (k / 64) m) ∙ bit_at-zero (k % 64) in omega arith))
+        (λ m. let q : k / 64 ≡ at = omega arith in let r : k % 64 < trailing_zeros w64 w = omega arith in
+        absurd (let z : bit_at (get_or words (k / 64) 0) (k % 64) ≡ 0 = ap (λ x. bit_at x (k % 64)) (ap (λ x. get_or words x 0) q ∙ sym is) ∙ bits_of.2 (k % 64) r in omega arith))
+        (cases_lt (k / 64) at))
         (λ l. l) (cases_lt k (at * 64 + trailing_zeros w64 w))

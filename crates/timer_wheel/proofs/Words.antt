@@ -30,7 +30,7 @@ module _ (words : List ℕ) (k w : ℕ) (within : k / 64 < length words) (is : w
   pub set_other : (j : ℕ) → j ≢ k → bit_of (with_bit words k w) j ≡ bit_of words j
   set_other j n = ⊎_elim
       (λ e. ap (λ x. bit_at x (j % 64)) (ap (λ y. get_or (with_bit words k w) y 0) e ∙ get_or-set_same words (k / 64) (bit_or w (1 * 2 ^ (k % 64) % 2 ^ 64)) 0 within)
-          ∙ (bit_at_set_other w64 w (k % 64) bound (j % 64) (other_place j n e) ∙ ap (λ x. bit_at x (j % 64)) (is_word ∙ ap (λ y. get_or words y 0) (sym e))))
+      ∙ (bit_at_set_other w64 w (k % 64) bound (j % 64) (other_place j n e) ∙ ap (λ x. bit_at x (j % 64)) (is_word ∙ ap (λ y. get_or words y 0) (sym e))))
       (λ m. ap (λ x. bit_at x (j % 64)) (get_or-set_other words (k / 64) (j / 64) (bit_or w (1 * 2 ^ (k % 64) % 2 ^ 64)) 0 m))
       (cases_eq (j / 64) (k / 64))
 
@@ -40,6 +40,6 @@ module _ (words : List ℕ) (k w : ℕ) (within : k / 64 < length words) (is : w
   pub clear_other : (j : ℕ) → j ≢ k → bit_of (without_bit words k w) j ≡ bit_of words j
   clear_other j n = ⊎_elim
       (λ e. ap (λ x. bit_at x (j % 64)) (ap (λ y. get_or (without_bit words k w) y 0) e ∙ get_or-set_same words (k / 64) (bit_and w (bit_not w64 (1 * 2 ^ (k % 64) % 2 ^ 64))) 0 within)
-          ∙ (bit_at_clear_other w64 w (k % 64) bound (j % 64) (omega arith) (other_place j n e) ∙ ap (λ x. bit_at x (j % 64)) (is_word ∙ ap (λ y. get_or words y 0) (sym e))))
+      ∙ (bit_at_clear_other w64 w (k % 64) bound (j % 64) (omega arith) (other_place j n e) ∙ ap (λ x. bit_at x (j % 64)) (is_word ∙ ap (λ y. get_or words y 0) (sym e))))
       (λ m. ap (λ x. bit_at x (j % 64)) (get_or-set_other words (k / 64) (j / 64) (bit_and w (bit_not w64 (1 * 2 ^ (k % 64) % 2 ^ 64))) 0 m))
       (cases_eq (j / 64) (k / 64))

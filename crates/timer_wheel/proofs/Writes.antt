@@ -41,7 +41,6 @@ bit_of_none : (k : ℕ) → k < 2112 → bit_of (replicate 33 0) k ≡ 0
 bit_of_none k l = ap (λ x. bit_at x (k % 64)) (get_or-replicate 33 (k / 64) 0 0 (omega arith)) ∙ bit_at-zero (k % 64)
 
 module _ (places : Places) (next prev words : List ℕ) (age : ℕ → ℕ) (L : AreLists places next prev words age) where
-
   next_in : (i : ℕ) → i < length places + 2112 → get_or next i 0 < length places + 2112
   next_in i l = L.rings.next_within i l
 
@@ -147,7 +146,7 @@ module _ (places : Places) (next prev words : List ℕ) (age : ℕ → ℕ) (L :
     pub taken_out : (h : ℕ) → h ≡ get_or next_out (length places + k) h → h ≢ length places + k → AreLists (set places s None) next_out prev_out words age
     taken_out h h_is some = out_with words L.all_words (λ j l. ⊎_elim
         (λ e. let own : get_or next_out (length places + k) 0 ≢ length places + k = λ f. some (h_is ∙ (get_or_default next_out (length places + k) h 0 head_in ∙ f)) in
-            subst (tells_at words) (sym e) (λ _. own, λ _. (L.told k k_few).1 had_slots))
+        subst (tells_at words) (sym e) (λ _. own, λ _. (L.told k k_few).1 had_slots))
         (λ n. subst (λ x. (bit_of words j ≡ 1) ↔ (x ≢ length places + j)) (sym (out_other j l n)) (L.told j l))
         (cases_eq j k))
 
@@ -156,10 +155,10 @@ module _ (places : Places) (next prev words : List ℕ) (age : ℕ → ℕ) (L :
         → AreLists (set places s None) next_out prev_out (without_bit words k w) age
     emptied h w h_is none w_is = out_with (without_bit words k w) (length-set words (k / 64) _ ∙ L.all_words) (λ j l. ⊎_elim
         (λ e. let own : get_or next_out (length places + k) 0 ≡ length places + k = get_or_default next_out (length places + k) 0 h head_in ∙ (sym h_is ∙ none) in
-            let bit = clear_same words k w word_in w_is in
-            subst (tells_at (without_bit words k w)) (sym e) (λ b. absurd (omega arith), λ n. absurd (n own)))
+        let bit = clear_same words k w word_in w_is in
+        subst (tells_at (without_bit words k w)) (sym e) (λ b. absurd (omega arith), λ n. absurd (n own)))
         (λ n. subst (λ x. (bit_of (without_bit words k w) j ≡ 1) ↔ (x ≢ length places + j)) (sym (out_other j l n))
-            (subst (λ b. (b ≡ 1) ↔ (get_or next (length places + j) 0 ≢ length places + j)) (sym (clear_other words k w word_in w_is j n)) (L.told j l)))
+        (subst (λ b. (b ≡ 1) ↔ (get_or next (length places + j) 0 ≢ length places + j)) (sym (clear_other words k w word_in w_is j n)) (L.told j l)))
         (cases_eq j k))
 
   module _ (s k p w : ℕ) (free : slice_get places s ≡ Some None) (few : k < 2112) (p_is : p ≡ get_or prev (length places + k) p) (w_is : w ≡ get_or words (k / 64) w) where
@@ -234,9 +233,9 @@ module _ (places : Places) (next prev words : List ℕ) (age : ℕ → ℕ) (L :
       rings = subst (λ n. AreRings n (n + 2112) (λ i. get_or next_put i 0) (λ i. get_or prev_put i 0) (list_of (set places s (Some k))) put_age) (sym e) put_rings;
       told = subst (λ n. TellWhichHaveSlots n 2112 (with_bit words k w) (λ i. get_or next_put i 0)) (sym e) (λ j l. ⊎_elim
           (λ f. subst (λ x. (bit_of (with_bit words k w) x ≡ 1) ↔ (get_or next_put (length places + x) 0 ≢ length places + x)) (sym f)
-              (λ _. has_slots, λ _. set_same words k w word_at w_is))
+          (λ _. has_slots, λ _. set_same words k w word_at w_is))
           (λ n. subst (λ x. (bit_of (with_bit words k w) j ≡ 1) ↔ (x ≢ length places + j)) (sym (put_other j l n))
-              (subst (λ b. (b ≡ 1) ↔ (get_or next (length places + j) 0 ≢ length places + j)) (sym (set_other words k w word_at w_is j n)) (L.told j l)))
+          (subst (λ b. (b ≡ 1) ↔ (get_or next (length places + j) 0 ≢ length places + j)) (sym (set_other words k w word_at w_is j n)) (L.told j l)))
           (cases_eq j k));
     }
 

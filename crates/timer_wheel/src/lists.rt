@@ -120,7 +120,11 @@ impl Lists {
     {
         let head = self.places.len() + list as usize;
         let node = self.next[head];
-        if node == head { None } else { Some(node as u32) }
+        if node == head {
+            None
+        } else {
+            Some(node as u32)
+        }
     }
 
     /// Of the timers of the slots in the list the one that goes off first, and its slot.
@@ -153,7 +157,8 @@ pub fn goes_before(slot: u32, timer: Timer, found: Option<(u32, Timer)>) -> bool
     ensures { MatchOption found (IsTrue result) (λ other. IsTrue result ↔ GoesFirst timer.due slot other.1.due other.0) }
 {
     match found {
-        Some((other, earliest)) => timer.due < earliest.due || timer.due == earliest.due && slot <= other,
+        Some((other, earliest)) => timer.due < earliest.due
+            || timer.due == earliest.due && slot <= other,
         None => true,
     }
 }

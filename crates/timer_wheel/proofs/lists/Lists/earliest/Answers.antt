@@ -14,7 +14,7 @@ loop-passed-init c =
     let n : c.index-node.result.now ≡ get_or c.self.inside.next.items (length c.self.inside.places.items + c.args.list) c.index-node.result.now = rw (← e) c.index-node.ensures in
     let first = n ∙ get_or_default c.self.inside.next.items (length c.self.inside.places.items + c.args.list) c.index-node.result.now 0 (omega arith) in
     subst (λ x. HasPassed c.self.inside.places.items c.self.inside.next.items c.self.inside.prev.items c.self.inside.words.items c.args.timers.now c.args.list 0 x None) (sym first)
-        (begins _ _ _ _ c.self.invariant.0 l c.args.list c.requires.list c.args.timers.now)
+    (begins _ _ _ _ c.self.invariant.0 l c.args.list c.requires.list c.args.timers.now)
 
 pub loop-passed-preserved : goal.loop-passed-preserved
 loop-passed-preserved c =
@@ -29,40 +29,40 @@ loop-passed-preserved c =
     let placed = in_from_list c.self.inside.places.items c.loop-passed.node c.args.list slot w.its_list in
     let Best : Option (ℕ × Timer) → Type 0 = IsBest c.self.inside.places.items c.args.list c.args.timers.now (seen ++ c.loop-passed.node ∷ []) in
     let best : Best c.match-timers-node.found = elim c.match-timers-node.branch [
-        | in-Some+then-goes_before a ↦ subst Best (sym a.found-is)
-            (best_new c.self.inside.places.items c.args.list c.args.timers.now seen c.loop-passed.node a.in-Some.timer c.loop-passed.found a.in-Some.is (omega arith) placed a.if-goes_before.ensures w.best)
-        | in_default a ↦ subst Best (sym a.found-is) (elim a.in_default.branch [
-            | in_default-via-in-None-1 b ↦ best_without c.self.inside.places.items c.args.list c.args.timers.now seen c.loop-passed.node c.loop-passed.found (cc) w.best
-            | in_default-via-in-Some+else-goes_before b ↦ best_old c.self.inside.places.items c.args.list c.args.timers.now seen c.loop-passed.node b.in-Some.timer c.loop-passed.found b.in-Some.is b.if-goes_before.ensures w.best
-          ])
-      ] in
+      | in-Some+then-goes_before a ↦ subst Best (sym a.found-is)
+          (best_new c.self.inside.places.items c.args.list c.args.timers.now seen c.loop-passed.node a.in-Some.timer c.loop-passed.found a.in-Some.is (omega arith) placed a.if-goes_before.ensures w.best)
+      | in_default a ↦ subst Best (sym a.found-is) (elim a.in_default.branch [
+        | in_default-via-in-None-1 b ↦ best_without c.self.inside.places.items c.args.list c.args.timers.now seen c.loop-passed.node c.loop-passed.found (cc) w.best
+        | in_default-via-in-Some+else-goes_before b ↦ best_old c.self.inside.places.items c.args.list c.args.timers.now seen c.loop-passed.node b.in-Some.timer c.loop-passed.found b.in-Some.is b.if-goes_before.ensures w.best
+      ])
+    ] in
     subst (λ x. HasPassed c.self.inside.places.items c.self.inside.next.items c.self.inside.prev.items c.self.inside.words.items c.args.timers.now c.args.list (c.loop-passed.passed + 1) x c.match-timers-node.found) (sym next)
-        (moves _ _ _ _ c.args.timers.now c.args.list c.loop-passed.passed c.loop-passed.node c.loop-passed.found c.requires.list w c.match-timers-node.found apart best)
+    (moves _ _ _ _ c.args.timers.now c.args.list c.loop-passed.passed c.loop-passed.node c.loop-passed.found c.requires.list w c.match-timers-node.found apart best)
 
 pub returns-after-loop-passed-clause-first : goal.returns-after-loop-passed-clause-first
 returns-after-loop-passed-clause-first c =
     let e : c.loop-passed.passed ≡ length c.self.inside.places.items = omega arith in
     let w = c.loop-passed.invariant in
     subst (λ x. IfSome c.loop-passed.found (λ found. IsFirstIn x c.args.list c.args.timers.now found.0 found.1)) c.self.view_is
-        (found_some _ _ _ _ c.args.timers.now c.args.list c.loop-passed.passed c.loop-passed.node c.requires.list
-            (all_passed _ _ _ _ c.args.timers.now c.args.list c.loop-passed.passed c.loop-passed.node c.loop-passed.found c.requires.list w e) c.loop-passed.found w)
+    (found_some _ _ _ _ c.args.timers.now c.args.list c.loop-passed.passed c.loop-passed.node c.requires.list
+    (all_passed _ _ _ _ c.args.timers.now c.args.list c.loop-passed.passed c.loop-passed.node c.loop-passed.found c.requires.list w e) c.loop-passed.found w)
 
 pub returns-after-loop-passed-clause-none : goal.returns-after-loop-passed-clause-none
 returns-after-loop-passed-clause-none c =
     let e : c.loop-passed.passed ≡ length c.self.inside.places.items = omega arith in
     let w = c.loop-passed.invariant in
     subst (λ x. IfNone c.loop-passed.found (NoTimerIn x c.args.list c.args.timers.now)) c.self.view_is
-        (found_no _ _ _ _ c.args.timers.now c.args.list c.loop-passed.passed c.loop-passed.node c.requires.list
-            (all_passed _ _ _ _ c.args.timers.now c.args.list c.loop-passed.passed c.loop-passed.node c.loop-passed.found c.requires.list w e) c.loop-passed.found w)
+    (found_no _ _ _ _ c.args.timers.now c.args.list c.loop-passed.passed c.loop-passed.node c.requires.list
+    (all_passed _ _ _ _ c.args.timers.now c.args.list c.loop-passed.passed c.loop-passed.node c.loop-passed.found c.requires.list w e) c.loop-passed.found w)
 
 pub returns-then-node-head-clause-first : goal.returns-then-node-head-clause-first
 returns-then-node-head-clause-first c =
     let e : c.len.result ≡ length c.self.inside.places.items = omega arith in
     subst (λ x. IfSome c.loop-passed.found (λ found. IsFirstIn x c.args.list c.args.timers.now found.0 found.1)) c.self.view_is
-        (found_some _ _ _ _ c.args.timers.now c.args.list c.loop-passed.passed c.loop-passed.node c.requires.list (c.if-node-head.true ∙ ap (λ x. x + c.args.list) e) c.loop-passed.found c.loop-passed.invariant)
+    (found_some _ _ _ _ c.args.timers.now c.args.list c.loop-passed.passed c.loop-passed.node c.requires.list (c.if-node-head.true ∙ ap (λ x. x + c.args.list) e) c.loop-passed.found c.loop-passed.invariant)
 
 pub returns-then-node-head-clause-none : goal.returns-then-node-head-clause-none
 returns-then-node-head-clause-none c =
     let e : c.len.result ≡ length c.self.inside.places.items = omega arith in
     subst (λ x. IfNone c.loop-passed.found (NoTimerIn x c.args.list c.args.timers.now)) c.self.view_is
-        (found_no _ _ _ _ c.args.timers.now c.args.list c.loop-passed.passed c.loop-passed.node c.requires.list (c.if-node-head.true ∙ ap (λ x. x + c.args.list) e) c.loop-passed.found c.loop-passed.invariant)
+    (found_no _ _ _ _ c.args.timers.now c.args.list c.loop-passed.passed c.loop-passed.node c.requires.list (c.if-node-head.true ∙ ap (λ x. x + c.args.list) e) c.loop-passed.found c.loop-passed.invariant)

@@ -19,4 +19,4 @@ returns-else-node-head-clause-is_in c =
     let n : c.index-node.result.now ≡ get_or c.self.inside.next.items (length c.self.inside.places.items + c.args.list) c.index-node.result.now = rw (← e) c.index-node.ensures in
     let first = n ∙ get_or_default c.self.inside.next.items (length c.self.inside.places.items + c.args.list) c.index-node.result.now 0 (omega arith) in
     subst (λ x. IsIn x c.index-node.result.now c.args.list) c.self.view_is (subst (λ x. IsIn c.self.inside.places.items x c.args.list) (sym first)
-        (front_slot _ _ _ _ c.self.invariant.0 l c.args.list c.requires (λ f. c.if-node-head.false (first ∙ (f ∙ ap (λ x. x + c.args.list) (sym e))))).1)
+    (front_slot _ _ _ _ c.self.invariant.0 l c.args.list c.requires (λ f. c.if-node-head.false (first ∙ (f ∙ ap (λ x. x + c.args.list) (sym e))))).1)

@@ -21,13 +21,17 @@ index_mut-requires-then-index-head c = let v = ap length c.self.view_is in let l
 pub invariant_of-self : goal.invariant_of-self
 invariant_of-self c = let v = ap length c.self.view_is in let lt : c.args.slot < length c.self.inside.places.items = omega arith in
     let e : c.len.result ≡ length c.self.inside.places.items = omega arith in
-    let h_is = c.index-2.ensures in let none = c.if-index-head.true in
-    (c.self.invariant.0, emptied _ _ _ _ c.self.invariant.0 c.self.invariant.1 c.args.slot c.in-Some.list c.index-prev.result.now c.index-next.result.now c.index.result.now c.index.ensures c.in-Some.is lt c.index-prev.ensures c.index-next.ensures
-        c.index-2.result.now c.index_mut-then-index-head.result.now (rw (← e) h_is) (rw (← e) none) c.index_mut-then-index-head.ensures.value)
+    let h_is = c.index-2.ensures in let none = c.if-index-head.true in (
+      c.self.invariant.0,
+      emptied _ _ _ _ c.self.invariant.0 c.self.invariant.1 c.args.slot c.in-Some.list c.index-prev.result.now c.index-next.result.now c.index.result.now c.index.ensures c.in-Some.is lt c.index-prev.ensures c.index-next.ensures
+          c.index-2.result.now c.index_mut-then-index-head.result.now (rw (← e) h_is) (rw (← e) none) c.index_mut-then-index-head.ensures.value,
+    )
 
 pub invariant_of-self-else-index-head : goal.invariant_of-self-else-index-head
 invariant_of-self-else-index-head c = let v = ap length c.self.view_is in let lt : c.args.slot < length c.self.inside.places.items = omega arith in
     let e : c.len.result ≡ length c.self.inside.places.items = omega arith in
-    let h_is = c.index-2.ensures in let some = c.if-index-head.false in
-    (c.self.invariant.0, taken_out _ _ _ _ c.self.invariant.0 c.self.invariant.1 c.args.slot c.in-Some.list c.index-prev.result.now c.index-next.result.now c.index.result.now c.index.ensures c.in-Some.is lt c.index-prev.ensures c.index-next.ensures
-        c.index-2.result.now (rw (← e) h_is) (rw (← e) some))
+    let h_is = c.index-2.ensures in let some = c.if-index-head.false in (
+      c.self.invariant.0,
+      taken_out _ _ _ _ c.self.invariant.0 c.self.invariant.1 c.args.slot c.in-Some.list c.index-prev.result.now c.index-next.result.now c.index.result.now c.index.ensures c.in-Some.is lt c.index-prev.ensures c.index-next.ensures
+          c.index-2.result.now (rw (← e) h_is) (rw (← e) some),
+    )

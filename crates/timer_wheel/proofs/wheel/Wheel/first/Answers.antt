@@ -12,7 +12,7 @@ returns-in_err-list-clause-idle c = subst (λ r. IfNone r (IsIdle c.args.self.no
 pub returns-clause-first : goal.returns-clause-first
 returns-clause-first c = IfSome_then c.earliest.result c.earliest.ensures.first (λ x p. subst (λ t. IsFirst t x.0 x.1) c.self.view_is
     (first_of_lists _ _ _ _ c.self.invariant c.in_ok-list.list x.0 x.1 c.in_ok-list.ensures.least
-        (subst (λ t. IsFirstIn c.self.inside.lists c.in_ok-list.list t x.0 x.1) c.as_slice.ensures.value p)))
+    (subst (λ t. IsFirstIn c.self.inside.lists c.in_ok-list.list t x.0 x.1) c.as_slice.ensures.value p)))
 
 pub returns-clause-idle : goal.returns-clause-idle
 returns-clause-idle c = if_none_then c.earliest.result c.earliest.ensures.none

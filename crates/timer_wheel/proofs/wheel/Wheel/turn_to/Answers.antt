@@ -36,8 +36,8 @@ loop-slot-smaller-in-Some-index c =
     let away = turns_away c.loop-slot.self-inside.timers.items c.loop-slot.self-inside.lists c.loop-slot.self-inside.last c.args.now c.list_at-list.result c.loop-slot.self-inside.known c.loop-slot.invariant.turning c.in-Some.slot c.in-Some.ensures.is_in t held (omega arith) after fits of_now (omega arith) in
     let place = c.list_at.ensures.list in
     let put : c.put_in.new.self ≡ set c.loop-slot.self-inside.lists c.in-Some.slot (Some (list_at c.args.now t.due)) =
-        c.put_in.ensures ∙ (ap (λ x. set x c.in-Some.slot (Some c.list_at.result)) c.take_out.ensures ∙ (set-set c.loop-slot.self-inside.lists c.in-Some.slot None (Some c.list_at.result)
-            ∙ ap (λ (x : ℕ). set c.loop-slot.self-inside.lists c.in-Some.slot (Some x)) place)) in
+    c.put_in.ensures ∙ (ap (λ x. set x c.in-Some.slot (Some c.list_at.result)) c.take_out.ensures ∙ (set-set c.loop-slot.self-inside.lists c.in-Some.slot None (Some c.list_at.result)
+    ∙ ap (λ (x : ℕ). set c.loop-slot.self-inside.lists c.in-Some.slot (Some x)) place)) in
     rw put (fewer c.loop-slot.self-inside.timers.items c.loop-slot.self-inside.lists c.loop-slot.self-inside.last c.args.now c.list_at-list.result c.loop-slot.self-inside.known c.loop-slot.invariant.turning c.in-Some.slot c.in-Some.ensures.is_in (Some (list_at c.args.now t.due)) away)
 
 pub loop-slot-preserved-in-Some-index : goal.loop-slot-preserved-in-Some-index
@@ -53,8 +53,8 @@ loop-slot-preserved-in-Some-index c =
     let away = turns_away c.loop-slot.self-inside.timers.items c.loop-slot.self-inside.lists c.loop-slot.self-inside.last c.args.now c.list_at-list.result c.loop-slot.self-inside.known c.loop-slot.invariant.turning c.in-Some.slot c.in-Some.ensures.is_in t held (omega arith) after fits of_now (omega arith) in
     let place = c.list_at.ensures.list in
     let put : c.put_in.new.self ≡ set c.loop-slot.self-inside.lists c.in-Some.slot (Some (list_at c.args.now t.due)) =
-        c.put_in.ensures ∙ (ap (λ x. set x c.in-Some.slot (Some c.list_at.result)) c.take_out.ensures ∙ (set-set c.loop-slot.self-inside.lists c.in-Some.slot None (Some c.list_at.result)
-            ∙ ap (λ (x : ℕ). set c.loop-slot.self-inside.lists c.in-Some.slot (Some x)) place)) in
+    c.put_in.ensures ∙ (ap (λ x. set x c.in-Some.slot (Some c.list_at.result)) c.take_out.ensures ∙ (set-set c.loop-slot.self-inside.lists c.in-Some.slot None (Some c.list_at.result)
+    ∙ ap (λ (x : ℕ). set c.loop-slot.self-inside.lists c.in-Some.slot (Some x)) place)) in
     record { turning = rw put (turns_on c.loop-slot.self-inside.timers.items c.loop-slot.self-inside.lists c.loop-slot.self-inside.last c.args.now c.list_at-list.result c.loop-slot.self-inside.known c.loop-slot.invariant.turning c.in-Some.slot c.in-Some.ensures.is_in (Some (list_at c.args.now t.due)) (ap (list_by c.args.now) (sym held)) away); same_timers = c.loop-slot.invariant.same_timers; same_last = last }
 
 pub loop-slot-smaller : goal.loop-slot-smaller
