@@ -1,5 +1,5 @@
 -- Where a moment stands among the lists of the wheel.
-use Rattle.std.proofs.Common.{◌≡◌, ◌≢◌, ℕ, zero, suc, ◌+◌, ◌*◌, ◌/◌, ◌%◌, ◌^◌, ◌<◌, ◌≤◌, ◌⊎◌, Bool, true, false, cond, eqb, ltb, refl, sym, ap, ◌∙◌, subst, inl, inr, ⊎_elim, arith, pow-suc}
+use Rattle.std.proofs.Common.{◌≡◌, ◌≢◌, ℕ, zero, suc, ◌+◌, ◌-◌, ◌*◌, ◌/◌, ◌%◌, ◌^◌, ◌<◌, ◌≤◌, ◌⊎◌, Bool, true, false, cond, eqb, ltb, refl, sym, ap, ◌∙◌, subst, inl, inr, ⊎_elim, arith, pow-suc}
 use Rattle.std.proofs.lemmas.Bool.{cases_eq, cases_lt}
 use Rattle.std.proofs.lemmas.Bool.Decides.{nat_tests}
 use Rattle.timer_wheel.specs.Levels.{level_list, list_at}
@@ -88,16 +88,20 @@ level_list_within (suc n) last due a b =
 
 -- ---- lists of moments
 
-before : (last due : ℕ) → due < last → list_at last due ≡ 0
+before : (last due : ℕ) → due < last → list_at last due ≡ 2047 - level_list 8 (18446744073709551615 - last) (18446744073709551615 - due)
 before last due l = grind (arith, nat_tests)
 
-from_last : (last due : ℕ) → last ≤ due → list_at last due ≡ 64 + level_list 8 last due
+from_last : (last due : ℕ) → last ≤ due → list_at last due ≡ 2048 + level_list 8 last due
 from_last last due l = grind (arith, nat_tests)
 
 -- a later moment stands in no earlier list
 pub list_at_rises : (last due later : ℕ) → due ≤ later → list_at last due ≤ list_at last later
 list_at_rises last due later l = ⊎_elim
-    (λ a. let b = before last due a in omega arith)
+    (λ a. let b = before last due a in ⊎_elim
+        (λ m. let c = before last later m in
+            let d = level_list_rises 8 (18446744073709551615 - last) (18446744073709551615 - later) (18446744073709551615 - due) (omega arith) (omega arith) in omega arith)
+        (λ m. let c = from_last last later m in omega arith)
+        (cases_lt later last))
     (λ a. let b = from_last last due a in let c = from_last last later (omega arith) in let d = level_list_rises 8 last due later a l in omega arith)
     (cases_lt due last)
 
@@ -105,25 +109,19 @@ list_at_rises last due later l = ⊎_elim
 pub list_at_tells : (last due later : ℕ) → list_at last due < list_at last later → due < later
 list_at_tells last due later l = ⊎_elim (λ a. a) (λ a. absurd (let b = list_at_rises last later due a in omega arith)) (cases_lt due later)
 
-pub list_at_within : (last due : ℕ) → last < 2 ^ 64 → due < 2 ^ 64 → list_at last due < 2112
-list_at_within last due a b = ⊎_elim
-    (λ l. let c = before last due l in omega arith)
-    (λ l. let c = from_last last due l in let d = level_list_within 7 last due a b in omega arith)
-    (cases_lt due last)
-
 pub list_at_stays : (last now due : ℕ) → last ≤ now → now ≤ due → list_at last due ≢ list_at last now → list_at now due ≡ list_at last due
 list_at_stays last now due a b m =
     let c = from_last now due b in let d = from_last last due (omega arith) in let e = from_last last now a in
-    let h = level_list_stays 8 last now due a b (λ f. m (d ∙ (ap (λ x. 64 + x) f ∙ sym e))) in
-    c ∙ (ap (λ x. 64 + x) h ∙ sym d)
+    let h = level_list_stays 8 last now due a b (λ f. m (d ∙ (ap (λ x. 2048 + x) f ∙ sym e))) in
+    c ∙ (ap (λ x. 2048 + x) h ∙ sym d)
 
-pub list_at_falls : (last now due : ℕ) → last ≤ now → now ≤ due → list_at last due ≡ list_at last now → 320 ≤ list_at last now → due < 2 ^ 64 → list_at now due < list_at last now
+pub list_at_falls : (last now due : ℕ) → last ≤ now → now ≤ due → list_at last due ≡ list_at last now → 2304 ≤ list_at last now → due < 2 ^ 64 → list_at now due < list_at last now
 list_at_falls last now due a b m l z =
     let c = from_last now due b in let d = from_last last due (omega arith) in let e = from_last last now a in
     let h = level_list_falls 8 last now due a b (omega arith) (omega arith) z in omega arith
 
 -- those of the lowest level stay where they are
-pub list_at_lowest : (last now due : ℕ) → last ≤ now → now ≤ due → list_at last due ≡ list_at last now → list_at last now < 320 → list_at now due ≡ list_at last due
+pub list_at_lowest : (last now due : ℕ) → last ≤ now → now ≤ due → list_at last due ≡ list_at last now → list_at last now < 2304 → list_at now due ≡ list_at last due
 list_at_lowest last now due a b m l =
     let c = from_last now due b in let d = from_last last due (omega arith) in let e = from_last last now a in
     let f = low_level 7 last now (omega arith) in
@@ -138,11 +136,11 @@ pub record ComesTo (first_last first_due last due list : ℕ) : Type 0 where
   pub last_within : last < 256 ^ levels
   pub due_within : due < 256 ^ levels
   pub rising : last ≤ due
-  pub lists_left : list + 256 * levels ≡ 2112
-  pub is : 64 + level_list 8 first_last first_due ≡ list + level_list levels last due
+  pub lists_left : list + 256 * levels ≡ 2048
+  pub is : level_list 8 first_last first_due ≡ list + level_list levels last due
 
-pub starts_at : (last due : ℕ) → last < 2 ^ 64 → due < 2 ^ 64 → last ≤ due → ComesTo last due last due 64
-starts_at last due a b l = record { levels = 8; some = omega arith; last_within = a; due_within = b; rising = l; lists_left = refl; is = refl }
+pub starts_at : (last due : ℕ) → last < 2 ^ 64 → due < 2 ^ 64 → last ≤ due → ComesTo last due last due 0
+starts_at last due a b l = record { levels = 8; some = omega arith; last_within = a; due_within = b; rising = l; lists_left = refl; is = omega arith }
 
 more_levels : (n last due : ℕ) → 0 < n → last ≤ due → due < 256 ^ n → due / 256 ≢ last / 256 → (m : ℕ) × (n ≡ suc (suc m))
 more_levels zero last due s r l n = absurd (omega arith)
@@ -156,7 +154,7 @@ module _ (first_last first_due last due list : ℕ) (c : ComesTo first_last firs
       let a : last < 256 ^ suc m.0 * 256 = subst (λ x. last < x) (ap (λ x. 256 ^ x) m.1 ∙ pow-suc 256 (suc m.0)) c.last_within in
       let b : due < 256 ^ suc m.0 * 256 = subst (λ x. due < x) (ap (λ x. 256 ^ x) m.1 ∙ pow-suc 256 (suc m.0)) c.due_within in
       let r = c.rising in let left = c.lists_left in let e = m.1 in
-      let is : 64 + level_list 8 first_last first_due ≡ list + level_list (suc (suc m.0)) last due = c.is ∙ ap (λ x. list + level_list x last due) m.1 in
+      let is : level_list 8 first_last first_due ≡ list + level_list (suc (suc m.0)) last due = c.is ∙ ap (λ x. list + level_list x last due) m.1 in
       let up = next_level (suc m.0) last due n in
       record {
         levels = suc m.0;
@@ -168,18 +166,9 @@ module _ (first_last first_due last due list : ℕ) (c : ComesTo first_last firs
         is = is ∙ (ap (λ x. list + x) up ∙ omega arith);
       }
 
-  pub list_few : list ≤ 1856
-  list_few = let a = c.some in let b = c.lists_left in omega arith
-
-  lowest_of : (n : ℕ) → c.levels ≡ n → 0 < n → due / 256 ≡ last / 256 → 64 + level_list 8 first_last first_due ≡ list + due % 256
+  lowest_of : (n : ℕ) → c.levels ≡ n → 0 < n → due / 256 ≡ last / 256 → level_list 8 first_last first_due ≡ list + due % 256
   lowest_of zero e s f = absurd (omega arith)
   lowest_of (suc n) e s f = c.is ∙ (ap (λ x. list + level_list x last due) e ∙ ap (λ x. list + x) (same_level n last due f))
 
-  pub found_list : first_last ≤ first_due → due / 256 ≡ last / 256 → list + due % 256 ≡ list_at first_last first_due
-  found_list r f = sym (lowest_of c.levels refl c.some f) ∙ sym (from_last first_last first_due r)
-
-  pub found_few : list + due % 256 < 2112
-  found_few = let a = c.some in let b = c.lists_left in omega arith
-
-pub is_overdue : (last due : ℕ) → due < last → 0 ≡ list_at last due
-is_overdue last due l = sym (before last due l)
+  pub found_place : due / 256 ≡ last / 256 → list + due % 256 ≡ level_list 8 first_last first_due
+  found_place f = sym (lowest_of c.levels refl c.some f)

@@ -12,7 +12,7 @@ use Rattle.timer_wheel.specs.Rings.{Places, IsIn}
 use Rattle.timer_wheel.specs.Levels.{list_at, list_by}
 use Rattle.timer_wheel.specs.Wheels.{IsWheel, IsKnown, IsFirstIn, NoTimerIn}
 use Rattle.timer_wheel.proofs.Walks.{GoesBefore, goes_or}
-use Rattle.timer_wheel.proofs.Moments.{list_at_tells, list_at_stays, list_at_falls, list_at_lowest, list_at_within}
+use Rattle.timer_wheel.proofs.Moments.{list_at_tells, list_at_stays, list_at_falls, list_at_lowest}
 
 slice_get_other : {X : Type 0} (xs : List X) (i j : ℕ) (x : X) → j ≢ i → slice_get (set xs i x) j ≡ slice_get xs j
 slice_get_other [] i j x n = refl
@@ -60,18 +60,32 @@ module _ (timers : Timers) (places : Places) (last : ℕ) (known : Option (ℕ �
   pub not_idle : (k : ℕ) → NoTimerIn places k timers → ((s : ℕ) × IsIn places s k) → ⊥
   not_idle k none some = let its = has_its_timer some.0 k some.1 in none some.0 its.0 some.1 its.1
 
+  -- the slot's timer is set, or taken away, and the slot is in the list of it
+  pub changes : (slot : ℕ) (held : Option Timer) (known' : Option (ℕ × Timer)) → slot < length timers → IsKnown (set timers slot held) known'
+      → IsWheel (set timers slot held) (set places slot (list_by last held)) last known'
+  changes slot held known' l is = let m = W.many in let e = length-set timers slot held in record {
+    few = let f = W.few in omega arith;
+    many = length-set places slot (list_by last held) ∙ (W.many ∙ sym e);
+    placed = λ s n. ⊎_elim
+        (λ f. ap (λ x. get_or (set places slot (list_by last held)) x None) f ∙ (get_or-set_same places slot (list_by last held) None (omega arith)
+            ∙ (ap (list_by last) (sym (get_or-set_same timers slot held None l)) ∙ ap (λ x. list_by last (get_or (set timers slot held) x None)) (sym f))))
+        (λ f. get_or-set_other places slot s (list_by last held) None f ∙ (W.placed s (omega arith) ∙ ap (list_by last) (sym (get_or-set_other timers slot s held None f))))
+        (cases_eq s slot);
+    known_first = is;
+  }
+
   -- ---- the wheel turns to a moment before which no timer is due
 
   module _ (now : ℕ) (later : last ≤ now) (none_before : (slot : ℕ) (timer : Timer) → HasTimer timers slot timer → now ≤ timer.due) where
     -- at the lowest level all stay in their lists
-    stays_at : (held : Option Timer) → ((timer : Timer) → held ≡ Some timer → now ≤ timer.due) → list_at last now < 320 → list_by last held ≡ list_by now held
+    stays_at : (held : Option Timer) → ((timer : Timer) → held ≡ Some timer → now ≤ timer.due) → list_at last now < 2304 → list_by last held ≡ list_by now held
     stays_at None after low = refl
     stays_at (Some timer) after low = let a = after timer refl in ap (λ (x : ℕ). Some x) (⊎_elim
         (λ e. sym (list_at_lowest last now timer.due later a e low))
         (λ n. sym (list_at_stays last now timer.due later a n))
         (cases_eq (list_at last timer.due) (list_at last now)))
 
-    pub turned_low : list_at last now < 320 → IsWheel timers places now known
+    pub turned_low : list_at last now < 2304 → IsWheel timers places now known
     turned_low low = record {
       few = W.few;
       many = W.many;
@@ -173,7 +187,7 @@ module _ (timers : Timers) (places : Places) (last now list : ℕ) (known : Opti
         let b = weight_out list place other in omega arith
 
     -- a timer that was in the list stands in an earlier one now
-    pub turns_away : (timer : Timer) → get_or timers slot None ≡ Some timer → last ≤ now → now ≤ timer.due → timer.due < 2 ^ 64 → list ≡ list_at last now → 320 ≤ list
+    pub turns_away : (timer : Timer) → get_or timers slot None ≡ Some timer → last ≤ now → now ≤ timer.due → timer.due < 2 ^ 64 → list ≡ list_at last now → 2304 ≤ list
         → ◌≢◌ {A = Option ℕ} (Some (list_at now timer.due)) (Some list)
     turns_away timer is later after fits of_now high e = ⊎_elim
         (λ p. let here : list_at last timer.due ≡ list = same_Some (list_at last timer.due) list (sym (ap (list_by last) is) ∙ p.1) in

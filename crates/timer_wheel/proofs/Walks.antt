@@ -62,12 +62,12 @@ pub record HasPassed (places : Places) (next prev words : List ℕ) (timers : Ti
   pub slots : (q : ℕ) → Among seen q → (q < length places) × (list_of places q ≡ Some k)
   pub older : (q : ℕ) → Among seen q → node < length places → age q < age node
   pub onward : (q : ℕ) → (q ≡ length places + k) ⊎ Among seen q → (get_or next q 0 ≡ node) ⊎ Among seen (get_or next q 0)
-  pub here : node < length places + 2112
+  pub here : node < length places + 4096
   pub its_list : list_of places node ≡ Some k
   pub best : IsBest places k timers seen found
 
-module _ (places : Places) (next prev words : List ℕ) (age : ℕ → ℕ) (L : AreLists places next prev words age) (k : ℕ) (k_lt : k < 2112) where
-  pub front_in : get_or next (length places + k) 0 < length places + 2112
+module _ (places : Places) (next prev words : List ℕ) (age : ℕ → ℕ) (L : AreLists places next prev words age) (k : ℕ) (k_lt : k < 4096) where
+  pub front_in : get_or next (length places + k) 0 < length places + 4096
   front_in = L.rings.next_within (length places + k) (omega arith)
 
   pub front_list : list_of places (get_or next (length places + k) 0) ≡ Some k
@@ -76,11 +76,11 @@ module _ (places : Places) (next prev words : List ℕ) (age : ℕ → ℕ) (L :
   -- the first node after the head is a slot of the list, or the head again
   pub front_slot : get_or next (length places + k) 0 ≢ length places + k → (get_or next (length places + k) 0 < length places) × IsIn places (get_or next (length places + k) 0) k
   front_slot n = ⊎_elim (λ l. (l, in_from_list places (get_or next (length places + k) 0) k l front_list))
-      (λ l. absurd (n (is_head (length places) (length places + 2112) (λ i. get_or next i 0) (λ i. get_or prev i 0) (list_of places) age (omega arith) L.rings k (get_or next (length places + k) 0) l front_list)))
+      (λ l. absurd (n (is_head (length places) (length places + 4096) (λ i. get_or next i 0) (λ i. get_or prev i 0) (list_of places) age (omega arith) L.rings k (get_or next (length places + k) 0) l front_list)))
       (cases_lt (get_or next (length places + k) 0) (length places))
 
   pub front_none : get_or next (length places + k) 0 ≡ length places + k → (slot : ℕ) → ¬ IsIn places slot k
-  front_none own slot e = empty_list (length places) (length places + 2112) (λ i. get_or next i 0) (λ i. get_or prev i 0) (list_of places) age (omega arith) L.rings k own slot
+  front_none own slot e = empty_list (length places) (length places + 4096) (λ i. get_or next i 0) (λ i. get_or prev i 0) (list_of places) age (omega arith) L.rings k own slot
       (slice_get_within places slot (Some k) e) (list_from_in places slot k e)
 
   pub begins : (timers : Timers) → HasPassed places next prev words timers k 0 (get_or next (length places + k) 0) None
@@ -98,10 +98,10 @@ module _ (places : Places) (next prev words : List ℕ) (age : ℕ → ℕ) (L :
     best = λ q timer e. absurd (false≢true e);
   }
 
-module _ (places : Places) (next prev words : List ℕ) (timers : Timers) (k passed node : ℕ) (found : Option (ℕ × Timer)) (k_lt : k < 2112)
+module _ (places : Places) (next prev words : List ℕ) (timers : Timers) (k passed node : ℕ) (found : Option (ℕ × Timer)) (k_lt : k < 4096)
     (w : HasPassed places next prev words timers k passed node found) where
   pub is_end : length places ≤ node → node ≡ length places + k
-  is_end l = is_head (length places) (length places + 2112) (λ i. get_or next i 0) (λ i. get_or prev i 0) (list_of places) w.age (omega arith) w.lists.rings k node l w.its_list
+  is_end l = is_head (length places) (length places + 4096) (λ i. get_or next i 0) (λ i. get_or prev i 0) (list_of places) w.age (omega arith) w.lists.rings k node l w.its_list
 
   pub is_slot : node ≢ length places + k → node < length places
   is_slot n = ⊎_elim (λ l. l) (λ l. absurd (n (is_end l))) (cases_lt node (length places))
@@ -153,7 +153,7 @@ module _ (places : Places) (next prev words : List ℕ) (timers : Timers) (k pas
       let P : ℕ → Type 0 = λ i. (i ≡ length places + k) ⊎ Among w.seen i in
       let to : (i : ℕ) → (i ≡ length places + k) ⊎ Among w.seen i → P (get_or next i 0) = λ i c. ⊎_elim (λ f. inl (f ∙ end)) (λ f. inr f) (w.onward i c) in
       ⊎_elim (λ f. absurd (omega arith)) (λ f. f)
-      (reached (length places) (length places + 2112) (λ i. get_or next i 0) (λ i. get_or prev i 0) (list_of places) w.age (omega arith) w.lists.rings k P
+      (reached (length places) (length places + 4096) (λ i. get_or next i 0) (λ i. get_or prev i 0) (list_of places) w.age (omega arith) w.lists.rings k P
       (to (length places + k) (inl refl)) (λ i _ _ p. to i p) slot l (list_from_in places slot k e))
 
 pub goes_on : (due slot due' slot' due'' slot'' : ℕ) → GoesFirst due slot due' slot' → GoesFirst due' slot' due'' slot'' → GoesFirst due slot due'' slot''
@@ -219,7 +219,7 @@ module _ (places : Places) (k : ℕ) (timers : Timers) (seen : List ℕ) (node :
         (push_cases seen node q e),
   )
 
-module _ (places : Places) (next prev words : List ℕ) (timers : Timers) (k passed node : ℕ) (k_lt : k < 2112) (end : node ≡ length places + k) where
+module _ (places : Places) (next prev words : List ℕ) (timers : Timers) (k passed node : ℕ) (k_lt : k < 4096) (end : node ≡ length places + k) where
   pub found_first : (p : ℕ × Timer) → HasPassed places next prev words timers k passed node (Some p) → IsFirstIn places k timers p.0 p.1
   found_first p w = record {
     is_in = w.best.0;
@@ -247,14 +247,14 @@ module _ (places : Places) (next prev words : List ℕ) (age : ℕ → ℕ) (L :
   no_words none slot k e = let b = has_bit slot k e in let l = L.listed slot k e in let m = L.all_words in
       let z = ap (λ x. bit_at x (k % 64)) (none (k / 64) (omega arith)) ∙ bit_at-zero (k % 64) in absurd (omega arith)
 
-  module _ (at w : ℕ) (at_lt : at < 33) (is : w ≡ get_or words at 0) (fits : w < 2 ^ 64) (some : w ≢ 0) (none : (j : ℕ) → j < at → get_or words j 0 ≡ 0) where
+  module _ (at w : ℕ) (at_lt : at < 64) (is : w ≡ get_or words at 0) (fits : w < 2 ^ 64) (some : w ≢ 0) (none : (j : ℕ) → j < at → get_or words j 0 ≡ 0) where
     bits_of : (trailing_zeros w64 w < 64) × (bit_at w (trailing_zeros w64 w) ≡ 1) × ((i : ℕ) → i < trailing_zeros w64 w → bit_at w i ≡ 0)
     bits_of = bit_at-trailing_zeros w64 w (omega arith) fits
 
     list : ℕ
     list = at * 64 + trailing_zeros w64 w
 
-    pub first_few : at * 64 + trailing_zeros w64 w < 2112
+    pub first_few : at * 64 + trailing_zeros w64 w < 4096
     first_few = let b = bits_of.0 in omega arith
 
     pub first_has : (slot : ℕ) × IsIn places slot (at * 64 + trailing_zeros w64 w)

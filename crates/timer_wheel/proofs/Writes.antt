@@ -37,15 +37,15 @@ in_from_list places s k l e = slice_get-get_or places s None l ∙ ap (λ (x : O
 pub list_from_in : (places : Places) (s k : ℕ) → IsIn places s k → list_of places s ≡ Some k
 list_from_in places s k e = slot_list places s (slice_get_within places s (Some k) e) ∙ get_or_from_slice_get places s (Some k) None e
 
-bit_of_none : (k : ℕ) → k < 2112 → bit_of (replicate 33 0) k ≡ 0
-bit_of_none k l = ap (λ x. bit_at x (k % 64)) (get_or-replicate 33 (k / 64) 0 0 (omega arith)) ∙ bit_at-zero (k % 64)
+bit_of_none : (k : ℕ) → k < 4096 → bit_of (replicate 64 0) k ≡ 0
+bit_of_none k l = ap (λ x. bit_at x (k % 64)) (get_or-replicate 64 (k / 64) 0 0 (omega arith)) ∙ bit_at-zero (k % 64)
 
 module _ (places : Places) (next prev words : List ℕ) (age : ℕ → ℕ) (L : AreLists places next prev words age) where
-  next_in : (i : ℕ) → i < length places + 2112 → get_or next i 0 < length places + 2112
+  next_in : (i : ℕ) → i < length places + 4096 → get_or next i 0 < length places + 4096
   next_in i l = L.rings.next_within i l
 
   -- the slots that are in lists of few numbers, after a write
-  listed_after : (s : ℕ) (x : Option ℕ) → ((k : ℕ) → x ≡ Some k → k < 2112) → (slot k : ℕ) → IsIn (set places s x) slot k → k < 2112
+  listed_after : (s : ℕ) (x : Option ℕ) → ((k : ℕ) → x ≡ Some k → k < 4096) → (slot k : ℕ) → IsIn (set places s x) slot k → k < 4096
   listed_after s x few slot k e = let l : slot < length places = let w = slice_get_within (set places s x) slot (Some k) e in let m = length-set places s x in omega arith in
       let f = list_from_in (set places s x) slot k e in ⊎_elim
       (λ q. few k (sym (new_list places s x (subst (λ y. y < length places) q l)) ∙ (ap (list_of (set places s x)) (sym q) ∙ f)))
@@ -56,7 +56,7 @@ module _ (places : Places) (next prev words : List ℕ) (age : ℕ → ℕ) (L :
     at : get_or places s None ≡ Some k
     at = get_or_default places s None place lt ∙ (sym place_is ∙ is)
 
-    node : s < length places + 2112
+    node : s < length places + 4096
     node = omega arith
 
     p_at : p ≡ get_or prev s 0
@@ -65,11 +65,11 @@ module _ (places : Places) (next prev words : List ℕ) (age : ℕ → ℕ) (L :
     q_at : q ≡ get_or next s 0
     q_at = q_is ∙ get_or_default next s q 0 (let e = L.nexts in omega arith)
 
-    p_in : p < length places + 2112
-    p_in = subst (λ x. x < length places + 2112) (sym p_at) (L.rings.prev_within s node)
+    p_in : p < length places + 4096
+    p_in = subst (λ x. x < length places + 4096) (sym p_at) (L.rings.prev_within s node)
 
-    q_in : q < length places + 2112
-    q_in = subst (λ x. x < length places + 2112) (sym q_at) (L.rings.next_within s node)
+    q_in : q < length places + 4096
+    q_in = subst (λ x. x < length places + 4096) (sym q_at) (L.rings.next_within s node)
 
     pub p_within : p < length next
     p_within = let e = L.nexts in let f = p_in in omega arith
@@ -77,7 +77,7 @@ module _ (places : Places) (next prev words : List ℕ) (age : ℕ → ℕ) (L :
     pub q_within : q < length prev
     q_within = let e = L.prevs in let f = q_in in omega arith
 
-    pub k_few : k < 2112
+    pub k_few : k < 4096
     k_few = L.listed s k (in_from_list places s k lt (slot_list places s lt ∙ at))
 
     abbrev next_out : List ℕ
@@ -106,32 +106,32 @@ module _ (places : Places) (next prev words : List ℕ) (age : ℕ → ℕ) (L :
       list_others = other_list places s None;
     }
 
-    out_rings : AreRings (length places) (length places + 2112) (λ i. get_or next_out i 0) (λ i. get_or prev_out i 0) (list_of (set places s None)) age
-    out_rings = rings_take_out (length places) (length places + 2112) (λ i. get_or next i 0) (λ i. get_or prev i 0) (list_of places) age (omega arith) L.rings s lt
+    out_rings : AreRings (length places) (length places + 4096) (λ i. get_or next_out i 0) (λ i. get_or prev_out i 0) (list_of (set places s None)) age
+    out_rings = rings_take_out (length places) (length places + 4096) (λ i. get_or next i 0) (λ i. get_or prev i 0) (list_of places) age (omega arith) L.rings s lt
         (λ i. get_or next_out i 0) (λ i. get_or prev_out i 0) (list_of (set places s None)) takes_out
 
     -- the head of another list keeps its links
-    out_other : (j : ℕ) → j < 2112 → j ≢ k → get_or next_out (length places + j) 0 ≡ get_or next (length places + j) 0
+    out_other : (j : ℕ) → j < 4096 → j ≢ k → get_or next_out (length places + j) 0 ≡ get_or next (length places + j) 0
     out_other j l n = takes_out.next_others (length places + j) (λ e. omega arith)
         (λ e. n (same_Some j k (sym (L.rings.head j) ∙ (ap (list_of places) e ∙ (sym (L.rings.one_list (get_or prev s 0) (L.rings.prev_within s node)) ∙ (ap (list_of places) (L.rings.forth s node) ∙ (slot_list places s lt ∙ at)))))))
 
-    out_with : (words' : List ℕ) → length words' ≡ 33 → TellWhichHaveSlots (length places) 2112 words' (λ i. get_or next_out i 0)
+    out_with : (words' : List ℕ) → length words' ≡ 64 → TellWhichHaveSlots (length places) 4096 words' (λ i. get_or next_out i 0)
         → AreLists (set places s None) next_out prev_out words' age
     out_with words' many tell = let e = length-set places s None in record {
       few = let f = L.few in omega arith;
       listed = listed_after s None (λ j f. absurd (none-some j f));
-      nexts = length-set (set next p q) s s ∙ (length-set next p q ∙ (L.nexts ∙ ap (λ x. x + 2112) (sym e)));
-      prevs = length-set (set prev q p) s s ∙ (length-set prev q p ∙ (L.prevs ∙ ap (λ x. x + 2112) (sym e)));
+      nexts = length-set (set next p q) s s ∙ (length-set next p q ∙ (L.nexts ∙ ap (λ x. x + 4096) (sym e)));
+      prevs = length-set (set prev q p) s s ∙ (length-set prev q p ∙ (L.prevs ∙ ap (λ x. x + 4096) (sym e)));
       all_words = many;
-      rings = subst (λ n. AreRings n (n + 2112) (λ i. get_or next_out i 0) (λ i. get_or prev_out i 0) (list_of (set places s None)) age) (sym e) out_rings;
-      told = subst (λ n. TellWhichHaveSlots n 2112 words' (λ i. get_or next_out i 0)) (sym e) tell;
+      rings = subst (λ n. AreRings n (n + 4096) (λ i. get_or next_out i 0) (λ i. get_or prev_out i 0) (list_of (set places s None)) age) (sym e) out_rings;
+      told = subst (λ n. TellWhichHaveSlots n 4096 words' (λ i. get_or next_out i 0)) (sym e) tell;
     }
 
     in_k : list_of places s ≡ Some k
     in_k = slot_list places s lt ∙ at
 
     had_slots : get_or next (length places + k) 0 ≢ length places + k
-    had_slots f = empty_list (length places) (length places + 2112) (λ i. get_or next i 0) (λ i. get_or prev i 0) (list_of places) age (omega arith) L.rings k f s lt in_k
+    had_slots f = empty_list (length places) (length places + 4096) (λ i. get_or next i 0) (λ i. get_or prev i 0) (list_of places) age (omega arith) L.rings k f s lt in_k
 
     abbrev tells_at : List ℕ → ℕ → Type 0
     tells_at words' j = (bit_of words' j ≡ 1) ↔ (get_or next_out (length places + j) 0 ≢ length places + j)
@@ -161,7 +161,7 @@ module _ (places : Places) (next prev words : List ℕ) (age : ℕ → ℕ) (L :
         (subst (λ b. (b ≡ 1) ↔ (get_or next (length places + j) 0 ≢ length places + j)) (sym (clear_other words k w word_in w_is j n)) (L.told j l)))
         (cases_eq j k))
 
-  module _ (s k p w : ℕ) (free : slice_get places s ≡ Some None) (few : k < 2112) (p_is : p ≡ get_or prev (length places + k) p) (w_is : w ≡ get_or words (k / 64) w) where
+  module _ (s k p w : ℕ) (free : slice_get places s ≡ Some None) (few : k < 4096) (p_is : p ≡ get_or prev (length places + k) p) (w_is : w ≡ get_or words (k / 64) w) where
     abbrev head : ℕ
     head = length places + k
 
@@ -187,7 +187,7 @@ module _ (places : Places) (next prev words : List ℕ) (age : ℕ → ℕ) (L :
     is_free = slot_list places s slot_in ∙ get_or_from_slice_get places s None None free
 
     last_other : p ≢ s
-    last_other e = last_apart (length places) (length places + 2112) (λ i. get_or next i 0) (λ i. get_or prev i 0) (list_of places) age (omega arith) L.rings s k slot_in (omega arith) is_free (sym put_at ∙ e)
+    last_other e = last_apart (length places) (length places + 4096) (λ i. get_or next i 0) (λ i. get_or prev i 0) (list_of places) age (omega arith) L.rings s k slot_in (omega arith) is_free (sym put_at ∙ e)
 
     puts_in : PutsIn s head k (λ i. get_or next i 0) (λ i. get_or prev i 0) (list_of places) (λ i. get_or next_put i 0) (λ i. get_or prev_put i 0) (list_of (set places s (Some k)))
     puts_in = let a = slot_in in let b = L.nexts in let c = L.prevs in let d = length-set next p s in let f = length-set prev s p in record {
@@ -204,8 +204,8 @@ module _ (places : Places) (next prev words : List ℕ) (age : ℕ → ℕ) (L :
     abbrev pub put_age : ℕ → ℕ
     put_age = changed age s (suc (age (get_or prev head 0)))
 
-    put_rings : AreRings (length places) (length places + 2112) (λ i. get_or next_put i 0) (λ i. get_or prev_put i 0) (list_of (set places s (Some k))) put_age
-    put_rings = rings_put_in (length places) (length places + 2112) (λ i. get_or next i 0) (λ i. get_or prev i 0) (list_of places) age (omega arith) L.rings s k slot_in (omega arith) is_free
+    put_rings : AreRings (length places) (length places + 4096) (λ i. get_or next_put i 0) (λ i. get_or prev_put i 0) (list_of (set places s (Some k))) put_age
+    put_rings = rings_put_in (length places) (length places + 4096) (λ i. get_or next i 0) (λ i. get_or prev i 0) (list_of places) age (omega arith) L.rings s k slot_in (omega arith) is_free
         (λ i. get_or next_put i 0) (λ i. get_or prev_put i 0) (list_of (set places s (Some k))) puts_in
 
     pub word_at : k / 64 < length words
@@ -219,19 +219,19 @@ module _ (places : Places) (next prev words : List ℕ) (age : ℕ → ℕ) (L :
     has_slots f = let a = slot_in in let b = put_rings.back head (omega arith) in
         let c : get_or prev_put head 0 ≡ head = ap (λ x. get_or prev_put x 0) (sym f) ∙ b in let d = puts_in.prev_head in omega arith
 
-    put_other : (j : ℕ) → j < 2112 → j ≢ k → get_or next_put (length places + j) 0 ≡ get_or next (length places + j) 0
+    put_other : (j : ℕ) → j < 4096 → j ≢ k → get_or next_put (length places + j) 0 ≡ get_or next (length places + j) 0
     put_other j l n = let a = slot_in in puts_in.next_others (length places + j) (λ e. omega arith)
         (λ e. n (same_Some j k (sym (L.rings.head j) ∙ (ap (list_of places) e ∙ last_list))))
 
     pub put_in : AreLists (set places s (Some k)) next_put prev_put (with_bit words k w) put_age
     put_in = let e = length-set places s (Some k) in record {
       few = let f = L.few in omega arith;
-      listed = listed_after s (Some k) (λ j f. subst (λ x. x < 2112) (same_Some k j f) few);
-      nexts = length-set (set next p s) s head ∙ (length-set next p s ∙ (L.nexts ∙ ap (λ x. x + 2112) (sym e)));
-      prevs = length-set (set prev s p) head s ∙ (length-set prev s p ∙ (L.prevs ∙ ap (λ x. x + 2112) (sym e)));
+      listed = listed_after s (Some k) (λ j f. subst (λ x. x < 4096) (same_Some k j f) few);
+      nexts = length-set (set next p s) s head ∙ (length-set next p s ∙ (L.nexts ∙ ap (λ x. x + 4096) (sym e)));
+      prevs = length-set (set prev s p) head s ∙ (length-set prev s p ∙ (L.prevs ∙ ap (λ x. x + 4096) (sym e)));
       all_words = length-set words (k / 64) _ ∙ L.all_words;
-      rings = subst (λ n. AreRings n (n + 2112) (λ i. get_or next_put i 0) (λ i. get_or prev_put i 0) (list_of (set places s (Some k))) put_age) (sym e) put_rings;
-      told = subst (λ n. TellWhichHaveSlots n 2112 (with_bit words k w) (λ i. get_or next_put i 0)) (sym e) (λ j l. ⊎_elim
+      rings = subst (λ n. AreRings n (n + 4096) (λ i. get_or next_put i 0) (λ i. get_or prev_put i 0) (list_of (set places s (Some k))) put_age) (sym e) put_rings;
+      told = subst (λ n. TellWhichHaveSlots n 4096 (with_bit words k w) (λ i. get_or next_put i 0)) (sym e) (λ j l. ⊎_elim
           (λ f. subst (λ x. (bit_of (with_bit words k w) x ≡ 1) ↔ (get_or next_put (length places + x) 0 ≢ length places + x)) (sym f)
           (λ _. has_slots, λ _. set_same words k w word_at w_is))
           (λ n. subst (λ x. (bit_of (with_bit words k w) j ≡ 1) ↔ (x ≢ length places + j)) (sym (put_other j l n))
@@ -242,25 +242,25 @@ module _ (places : Places) (next prev words : List ℕ) (age : ℕ → ℕ) (L :
 -- at first each node is a ring alone, and no slot is in a list
 module _ (n : ℕ) (few : n < 2 ^ 32) where
   abbrev own_ring : List ℕ
-  own_ring = range_with_len 0 (n + 2112)
+  own_ring = range_with_len 0 (n + 4096)
 
-  first_next : (i : ℕ) → i < n + 2112 → get_or (range_with_len 0 (n + 2112)) i 0 ≡ i
-  first_next i l = get_or-range_with_len 0 (n + 2112) i 0 l ∙ (omega arith)
+  first_next : (i : ℕ) → i < n + 4096 → get_or (range_with_len 0 (n + 4096)) i 0 ≡ i
+  first_next i l = get_or-range_with_len 0 (n + 4096) i 0 l ∙ (omega arith)
 
   no_list : (i k : ℕ) → i < n → list_of (replicate n None) i ≢ Some k
   no_list i k l e = let m : length (replicate {A = Option ℕ} n None) ≡ n = length-replicate {A = Option ℕ} n None in
       none-some k (sym (get_or-replicate n i None None l) ∙ (sym (slot_list (replicate n None) i (omega arith)) ∙ e))
 
-  pub no_lists : AreLists (replicate n None) (range_with_len 0 (n + 2112)) (range_with_len 0 (n + 2112)) (replicate 33 0) (λ _. 0)
+  pub no_lists : AreLists (replicate n None) (range_with_len 0 (n + 4096)) (range_with_len 0 (n + 4096)) (replicate 64 0) (λ _. 0)
   no_lists = let m : length (replicate {A = Option ℕ} n None) ≡ n = length-replicate {A = Option ℕ} n None in record {
     few = omega arith;
     listed = λ slot k e. absurd (none-some k (sym (get_or-replicate n slot None None (let w = slice_get_within (replicate n None) slot (Some k) e in omega arith)) ∙ get_or_from_slice_get (replicate n None) slot (Some k) None e));
-    nexts = length-range_with_len 0 (n + 2112) ∙ ap (λ x. x + 2112) (sym m);
-    prevs = length-range_with_len 0 (n + 2112) ∙ ap (λ x. x + 2112) (sym m);
-    all_words = length-replicate {A = ℕ} 33 0;
-    rings = subst (λ x. AreRings x (x + 2112) (λ i. get_or own_ring i 0) (λ i. get_or own_ring i 0) (list_of (replicate n None)) (λ _. 0)) (sym m) (record {
-      next_within = λ i l. subst (λ x. x < n + 2112) (sym (first_next i l)) l;
-      prev_within = λ i l. subst (λ x. x < n + 2112) (sym (first_next i l)) l;
+    nexts = length-range_with_len 0 (n + 4096) ∙ ap (λ x. x + 4096) (sym m);
+    prevs = length-range_with_len 0 (n + 4096) ∙ ap (λ x. x + 4096) (sym m);
+    all_words = length-replicate {A = ℕ} 64 0;
+    rings = subst (λ x. AreRings x (x + 4096) (λ i. get_or own_ring i 0) (λ i. get_or own_ring i 0) (list_of (replicate n None)) (λ _. 0)) (sym m) (record {
+      next_within = λ i l. subst (λ x. x < n + 4096) (sym (first_next i l)) l;
+      prev_within = λ i l. subst (λ x. x < n + 4096) (sym (first_next i l)) l;
       back = λ i l. ap (λ x. get_or own_ring x 0) (first_next i l) ∙ first_next i l;
       forth = λ i l. ap (λ x. get_or own_ring x 0) (first_next i l) ∙ first_next i l;
       one_list = λ i l. ap (list_of (replicate n None)) (first_next i l);
@@ -268,6 +268,6 @@ module _ (n : ℕ) (few : n < 2 ^ 32) where
       alone = λ i l _. first_next i (omega arith);
       older = λ i k l e _. absurd (no_list i k l e);
     });
-    told = subst (λ x. TellWhichHaveSlots x 2112 (replicate 33 0) (λ i. get_or own_ring i 0)) (sym m) (λ k l.
+    told = subst (λ x. TellWhichHaveSlots x 4096 (replicate 64 0) (λ i. get_or own_ring i 0)) (sym m) (λ k l.
         (λ b. absurd (let z = bit_of_none k l in omega arith), λ d. absurd (d (first_next (n + k) (omega arith)))));
   }

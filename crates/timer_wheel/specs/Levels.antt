@@ -1,5 +1,5 @@
 -- In which list of the wheel a moment stands.
-use Rattle.std.specs.Prelude.{ℕ, zero, suc, ◌+◌, ◌*◌, ◌/◌, ◌%◌, ◌<◌, Bool, cond, eqb, nat_lt, Option, Some, None}
+use Rattle.std.specs.Prelude.{ℕ, zero, suc, ◌+◌, ◌-◌, ◌*◌, ◌/◌, ◌%◌, ◌<◌, Bool, cond, eqb, nat_lt, Option, Some, None}
 use Rattle.timer_wheel.specs.declared.wheel.Timer.{Timer}
 
 -- where `due` stands from `last` on, of so many levels: 256 times the place of the highest byte in which they differ, and that
@@ -8,9 +8,9 @@ abbrev pub level_list : ℕ → ℕ → ℕ → ℕ
 level_list zero last due = 0
 level_list (suc levels) last due = cond (eqb (due / 256) (last / 256)) (due % 256) (256 + level_list levels (last / 256) (due / 256))
 
--- the list of a moment: list 0 for all that are before `last`, and from list 64 on those of the eight levels
+-- the list of a moment: of those before `last` the later ones are nearer to the middle, of those from `last` on the earlier ones
 abbrev pub list_at : ℕ → ℕ → ℕ
-list_at last due = cond (nat_lt due last) 0 (64 + level_list 8 last due)
+list_at last due = cond (nat_lt due last) (2047 - level_list 8 (18446744073709551615 - last) (18446744073709551615 - due)) (2048 + level_list 8 last due)
 
 -- the list of a slot by its timer: none without one
 abbrev pub list_by : ℕ → Option Timer → Option ℕ

@@ -34,9 +34,9 @@ TellWhichHaveSlots slots lists words next = (k : ℕ) → k < lists → (bit_at 
 -- the links of slots and heads, and the words, are those of the lists in which the slots are
 pub record AreLists (places : Places) (next prev words : List ℕ) (age : ℕ → ℕ) : Type 0 where
   pub few : length places < 2 ^ 32
-  pub listed : (slot k : ℕ) → IsIn places slot k → k < 2112
-  pub nexts : length next ≡ length places + 2112
-  pub prevs : length prev ≡ length places + 2112
-  pub all_words : length words ≡ 33
-  pub rings : AreRings (length places) (length places + 2112) (slice_index next) (slice_index prev) (list_of places) age
-  pub told : TellWhichHaveSlots (length places) 2112 words (slice_index next)
+  pub listed : (slot k : ℕ) → IsIn places slot k → k < 4096
+  pub nexts : length next ≡ length places + 4096
+  pub prevs : length prev ≡ length places + 4096
+  pub all_words : length words ≡ 64
+  pub rings : AreRings (length places) (length places + 4096) (slice_index next) (slice_index prev) (list_of places) age
+  pub told : TellWhichHaveSlots (length places) 4096 words (slice_index next)

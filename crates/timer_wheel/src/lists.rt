@@ -13,7 +13,10 @@ use std::alloc::{AllocError as NoMemory, Global};
 use std::marker::Model;
 
 /// How many lists there are.
-pub const LISTS: usize = 2112;
+pub const LISTS: usize = 4096;
+
+/// How many slots a list may have that isn't long.
+const SHORT: usize = 32;
 
 /// The number of bits of a word.
 const BITS: usize = 64;
@@ -45,10 +48,10 @@ impl Lists {
         ensures { IfOk result (λ lists. lists ≡ replicate slots None) }
     {
         let nodes = slots as usize + LISTS;
-        let places = vec![in alloc; None; slots as usize]?;
+        let places = no_places(alloc, slots as usize)?;
         let next = rings(alloc, nodes)?;
         let prev = rings(alloc, nodes)?;
-        let words = vec![in alloc; 0; LISTS / BITS]?;
+        let words = no_bits(alloc, LISTS / BITS)?;
         Ok(Lists {
             places,
             next,
@@ -83,7 +86,7 @@ impl Lists {
     /// Puts the slot, which is in no list, at the end of this one.
     pub fn put_in(&mut self, slot: u32, list: u16)
         requires slot { slice_get self.old slot ≡ Some None }
-        requires list { list < 2112 }
+        requires list { list < 4096 }
         ensures { self.new ≡ slice_set self.old slot (Some list) }
     {
         let node = slot as usize;
@@ -99,7 +102,7 @@ impl Lists {
 
     /// The first list that has a slot.
     pub fn first(&self) -> Option<u16>
-        ensures few { IfSome result (λ list. list < 2112) }
+        ensures few { IfSome result (λ list. list < 4096) }
         ensures has_slots { IfSome result (λ list. (slot : ℕ) × IsIn self.now slot list) }
         ensures least { IfSome result (λ list. (slot k : ℕ) → IsIn self.now slot k → list ≤ k) }
         ensures none { IfNone result ((slot k : ℕ) → ¬ IsIn self.now slot k) }
@@ -114,7 +117,7 @@ impl Lists {
 
     /// The slot that has been in the list for longest.
     pub fn oldest(&self, list: u16) -> Option<u32>
-        requires { list < 2112 }
+        requires { list < 4096 }
         ensures is_in { IfSome result (λ slot. IsIn self.now slot list) }
         ensures none { IfNone result ((slot : ℕ) → ¬ IsIn self.now slot list) }
     {
@@ -127,9 +130,24 @@ impl Lists {
         }
     }
 
+    /// Whether there are more slots in the list than are gone over at each look for the first timer.
+    pub fn is_long(&self, list: u16) -> bool
+        requires { list < 4096 }
+    {
+        let head = self.places.len() + list as usize;
+        let mut node = self.next[head];
+        for passed in 0..SHORT {
+            if node == head {
+                return false;
+            }
+            node = self.next[node];
+        }
+        true
+    }
+
     /// Of the timers of the slots in the list the one that goes off first, and its slot.
     pub fn earliest(&self, list: u16, timers: &[Option<Timer>]) -> Option<(u32, Timer)>
-        requires list { list < 2112 }
+        requires list { list < 4096 }
         requires timers { length timers.now ≡ length self.now }
         ensures first { IfSome result (λ found. IsFirstIn self.now list timers.now found.0 found.1) }
         ensures none { IfNone result (NoTimerIn self.now list timers.now) }
@@ -168,4 +186,18 @@ fn rings(alloc: Global, nodes: usize) -> Result<Vec<usize>, NoMemory>
     ensures { IfOk result (λ links. links.items ≡ range_with_len 0 nodes) }
 {
     (0..nodes).collect(alloc)
+}
+
+/// So many slots, none in a list.
+fn no_places(alloc: Global, slots: usize) -> Result<Vec<Option<u16>>, NoMemory>
+    ensures { IfOk result (λ places. places.items ≡ replicate slots None) }
+{
+    vec![in alloc; None; slots]
+}
+
+/// So many words without a bit.
+fn no_bits(alloc: Global, words: usize) -> Result<Vec<u64>, NoMemory>
+    ensures { IfOk result (λ made. made.items ≡ replicate words 0) }
+{
+    vec![in alloc; 0; words]
 }

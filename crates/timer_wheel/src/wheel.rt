@@ -23,7 +23,8 @@ pub struct Timer {
 /// slot, with None where a slot has no timer.
 ///
 /// It is a hierarchical timing wheel (Varghese and Lauck, 1987, scheme 7): each slot is in the list of the moment when its timer
-/// is due. `last` is the wheel's last moment; `known` is the timer that goes off first, where that is known.
+/// is due. `last` is the wheel's last moment. `known` is the timer that goes off first; it is None where no timer is set, or while
+/// a call looks for it.
 #[derive(Drop)]
 pub struct Wheel {
     timers: Vec<Option<Timer>>,
@@ -71,6 +72,7 @@ impl Wheel {
         self.lists.put_in(slot, list_at(self.last, due));
         self.timers[slot as usize] = Some(timer);
         self.known = known_after_set(self.known, slot, timer);
+        self.settle();
     }
 
     /// Takes away the slot's timer, if it has one.
@@ -82,6 +84,7 @@ impl Wheel {
         self.lists.take_out(slot);
         self.timers[slot as usize] = None;
         self.known = known_after_clear(self.known, slot);
+        self.settle();
     }
 
     /// Takes away the timer that goes off first, where it is due at `now`, and answers its slot, its generation and the
@@ -98,7 +101,7 @@ impl Wheel {
         ensures slots { length self.new ≡ length self.old }
         ensures step { WheelStep self.old (recorded.Pop now result) self.new }
     {
-        let (slot, timer) = self.find_first()?;
+        let (slot, timer) = self.first()?;
         self.turn_to(now.min(timer.due));
         if timer.due > now {
             return None;
@@ -129,15 +132,21 @@ impl Wheel {
         self.lists.earliest(list, self.timers.as_slice())
     }
 
-    /// The same, and keeps it for the calls that follow.
-    fn find_first(&mut self) -> Option<(u32, Timer)>
-        ensures first { IfSome result (λ found. IsFirst self.old found.0 found.1) }
-        ensures idle { IfNone result (IsIdle self.old) }
-        ensures unchanged { self.new ≡ self.old }
+    /// Finds out which timer goes off first, where that isn't known. Where it is in a long list the wheel turns to its moment, so
+    /// that the slots of that list are found in shorter ones from now on.
+    fn settle(&mut self)
+        ensures { self.new ≡ self.old }
     {
-        let first = self.first();
-        self.known = first;
-        first
+        if self.known.is_some() {
+            return;
+        }
+        let Some((slot, timer)) = self.first() else {
+            return;
+        };
+        self.known = Some((slot, timer));
+        if self.lists.is_long(list_at(self.last, timer.due)) {
+            self.turn_to(timer.due);
+        }
     }
 
     /// Makes this moment, before which no timer is due, the wheel's last one, if it isn't before that. The slots that are in the

@@ -1,5 +1,5 @@
 use Rattle.timer_wheel.proofs.Moments.{ComesTo}
-use Rattle.timer_wheel.proofs.levels.list_at.Given as goal
+use Rattle.timer_wheel.proofs.levels.level_list.Given as goal
 
 abbrev pub invariant-loop-due : goal.invariant-loop-due
 invariant-loop-due l = ComesTo l.initial.last l.initial.due l.last l.due l.level
