@@ -98,10 +98,10 @@ from_last last due l = grind (arith, nat_tests)
 pub list_at_rises : (last due later : ℕ) → due ≤ later → list_at last due ≤ list_at last later
 list_at_rises last due later l = ⊎_elim
     (λ a. let b = before last due a in ⊎_elim
-        (λ m. let c = before last later m in
-            let d = level_list_rises 8 (18446744073709551615 - last) (18446744073709551615 - later) (18446744073709551615 - due) (omega arith) (omega arith) in omega arith)
-        (λ m. let c = from_last last later m in omega arith)
-        (cases_lt later last))
+    (λ m. let c = before last later m in
+    let d = level_list_rises 8 (18446744073709551615 - last) (18446744073709551615 - later) (18446744073709551615 - due) (omega arith) (omega arith) in omega arith)
+    (λ m. let c = from_last last later m in omega arith)
+    (cases_lt later last))
     (λ a. let b = from_last last due a in let c = from_last last later (omega arith) in let d = level_list_rises 8 last due later a l in omega arith)
     (cases_lt due last)
 

@@ -68,7 +68,7 @@ module _ (timers : Timers) (places : Places) (last : ℕ) (known : Option (ℕ �
     many = length-set places slot (list_by last held) ∙ (W.many ∙ sym e);
     placed = λ s n. ⊎_elim
         (λ f. ap (λ x. get_or (set places slot (list_by last held)) x None) f ∙ (get_or-set_same places slot (list_by last held) None (omega arith)
-            ∙ (ap (list_by last) (sym (get_or-set_same timers slot held None l)) ∙ ap (λ x. list_by last (get_or (set timers slot held) x None)) (sym f))))
+        ∙ (ap (list_by last) (sym (get_or-set_same timers slot held None l)) ∙ ap (λ x. list_by last (get_or (set timers slot held) x None)) (sym f))))
         (λ f. get_or-set_other places slot s (list_by last held) None f ∙ (W.placed s (omega arith) ∙ ap (list_by last) (sym (get_or-set_other timers slot s held None f))))
         (cases_eq s slot);
     known_first = is;

@@ -1,5 +1,5 @@
 //! The wheel.
-ghost use Rattle.std.specs.Prelude.{◌≡◌, ℕ, ◌^◌, ◌<◌, ◌≤◌, Some, None, Option, List, IfOk, IfSome, IfNone, IsTrue, ◌↔◌, MatchOption, length, replicate, slice_set};
+ghost use Rattle.std.specs.Prelude.{◌≡◌, ◌≢◌, ℕ, ◌^◌, ◌<◌, ◌≤◌, Some, None, Option, List, IfOk, IfSome, IfNone, IsSome, IsTrue, ◌↔◌, MatchOption, length, replicate, slice_set};
 ghost use Rattle.timer_wheel.specs.Timers.{Timers, HasTimer, IsFirst, IsIdle, IsLeastDue, NoneIsDue};
 ghost use Rattle.timer_wheel.specs.Records.{WheelStep};
 ghost use Rattle.timer_wheel.specs.Wheels.{IsKnown};
@@ -175,7 +175,8 @@ impl Wheel {
 
 /// What is known of the first timer, when the slot's timer has been set.
 fn known_after_set(known: Option<(u32, Timer)>, slot: u32, timer: Timer) -> Option<(u32, Timer)>
-    ensures { (timers : Timers) → slot < length timers → IsKnown timers known → IsKnown (slice_set timers slot (Some timer)) result }
+    ensures known { (timers : Timers) → slot < length timers → IsKnown timers known → IsKnown (slice_set timers slot (Some timer)) result }
+    ensures kept { IfSome known (λ first. first.0 ≢ slot → IsSome result) }
 {
     let (first, _) = known?;
     if goes_before(slot, timer, known) {
@@ -189,7 +190,8 @@ fn known_after_set(known: Option<(u32, Timer)>, slot: u32, timer: Timer) -> Opti
 
 /// What is known of the first timer, when the slot's timer has been taken away.
 fn known_after_clear(known: Option<(u32, Timer)>, slot: u32) -> Option<(u32, Timer)>
-    ensures { (timers : Timers) → IsKnown timers known → IsKnown (slice_set timers slot None) result }
+    ensures known { (timers : Timers) → IsKnown timers known → IsKnown (slice_set timers slot None) result }
+    ensures kept { IfSome known (λ first. first.0 ≢ slot → result ≡ known) }
 {
     let (first, _) = known?;
     if first == slot { None } else { known }

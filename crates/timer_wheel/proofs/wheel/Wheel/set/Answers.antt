@@ -12,7 +12,7 @@ invariant_of-self c =
     let timer : Timer = record { generation = c.args.generation; due = c.args.due } in
     let within : slot < length c.self.inside.timers.items = omega arith in
     let put : c.put_in.new.self ≡ set lists slot (Some (list_at c.self.inside.last c.args.due)) =
-        c.put_in.ensures ∙ (ap (λ x. set x slot (Some c.list_at.result)) c.take_out.ensures ∙ (set-set lists slot None (Some c.list_at.result)
-            ∙ ap (λ (x : ℕ). set lists slot (Some x)) c.list_at.ensures.list)) in
+    c.put_in.ensures ∙ (ap (λ x. set x slot (Some c.list_at.result)) c.take_out.ensures ∙ (set-set lists slot None (Some c.list_at.result)
+    ∙ ap (λ (x : ℕ). set lists slot (Some x)) c.list_at.ensures.list)) in
     rw put (changes c.self.inside.timers.items lists c.self.inside.last c.self.inside.known c.self.invariant slot (Some timer) c.known_after_set-self-inside.result within
-        (c.known_after_set-self-inside.ensures c.self.inside.timers.items within c.self.invariant.known_first))
+    (c.known_after_set-self-inside.ensures.known c.self.inside.timers.items within c.self.invariant.known_first))
