@@ -1,2 +1,7 @@
-pub mod Scan
 pub mod Runs
+pub mod Rings
+pub mod Moments
+pub mod Words
+pub mod Writes
+pub mod Walks
+pub mod Placed

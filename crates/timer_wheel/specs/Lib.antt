@@ -1,2 +1,5 @@
 pub mod Timers
 pub mod Records
+pub mod Rings
+pub mod Levels
+pub mod Wheels

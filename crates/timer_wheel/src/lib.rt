@@ -7,6 +7,8 @@
 #![tactic(auto)]
 
 pub mod laws;
+mod levels;
+mod lists;
 mod record;
 mod wheel;
 

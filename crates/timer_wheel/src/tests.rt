@@ -1,6 +1,9 @@
-ghost use Rattle.std.specs.Prelude.{◌≡◌, length};
+ghost use Rattle.std.specs.Prelude.{◌≡◌, ◌^◌, ◌<◌, length};
+
+mod plain;
 
 use super::Wheel;
+use plain::Plain;
 use std::process::Abort;
 use std::test::Fail;
 
@@ -109,5 +112,140 @@ fn wheel_of_no_slots_has_no_timer(rt: HostRuntime) -> Result<(), Fail> {
     let mut wheel = Wheel::new(rt.alloc(), 0)?;
     assert_eq!(rt; wheel.pop_due(LAST), None);
     assert_eq!(rt; wheel.next_due(), None);
+    Ok(())
+}
+
+/// How many slots the wheel and the plain program have.
+const SLOTS: u32 = 40;
+
+/// Moments at the borders of the levels.
+const BORDERS: [u64; 26] = [
+    0,
+    1,
+    (1 << 8) - 1,
+    1 << 8,
+    (1 << 8) + 1,
+    (1 << 16) - 1,
+    1 << 16,
+    (1 << 16) + 1,
+    (1 << 24) - 1,
+    1 << 24,
+    (1 << 24) + 1,
+    (1 << 32) - 1,
+    1 << 32,
+    (1 << 32) + 1,
+    (1 << 40) - 1,
+    1 << 40,
+    (1 << 40) + 1,
+    (1 << 48) - 1,
+    1 << 48,
+    (1 << 48) + 1,
+    (1 << 56) - 1,
+    1 << 56,
+    (1 << 56) + 1,
+    1 << 63,
+    LAST - 1,
+    LAST,
+];
+
+/// A number that looks drawn at random, below 2^31.
+fn drawn(state: &mut u64) -> u64
+    ensures { result < 2 ^ 31 }
+{
+    *state = state
+        .wrapping_mul(6_364_136_223_846_793_005)
+        .wrapping_add(1_442_695_040_888_963_407);
+    *state >> 33
+}
+
+/// A moment at a border, at this one or just beside it, before or after it, or with another byte.
+fn moment(state: &mut u64, at: u64) -> u64 {
+    let (way, some) = (drawn(state) % 5, drawn(state));
+    match way {
+        0 => BORDERS[(some % 26) as usize],
+        1 => at.saturating_add(some % 3),
+        2 => at.saturating_add(some % 70_000),
+        3 => at.saturating_sub(some % 600),
+        _ => at ^ some % 256 << 8 * (some / 256 % 8),
+    }
+}
+
+/// Asks both for the timer that is due at `now`, and answers whether there was one.
+fn pop(rt: &impl Abort, wheel: &mut Wheel, plain: &mut Plain, now: u64) -> bool
+    requires wheel { length wheel.old ≡ 40 }
+    requires plain { length plain.old ≡ 40 }
+    ensures wheel { length wheel.new ≡ 40 }
+    ensures plain { length plain.new ≡ 40 }
+{
+    let popped = wheel.pop_due(now);
+    assert_eq!(rt; popped, plain.pop_due(now), "at {now}");
+    popped.is_some()
+}
+
+/// Makes one call of both, asserts that they answer the same, and answers whether a timer went off.
+fn call_both(
+    rt: &impl Abort,
+    wheel: &mut Wheel,
+    plain: &mut Plain,
+    state: &mut u64,
+    now: &mut u64,
+) -> bool
+    requires wheel { length wheel.old ≡ 40 }
+    requires plain { length plain.old ≡ 40 }
+    ensures wheel { length wheel.new ≡ 40 }
+    ensures plain { length plain.new ≡ 40 }
+{
+    let slot = (drawn(state) % 40) as u32;
+    match drawn(state) % 8 {
+        0..=3 => {
+            let (generation, due) = (drawn(state), moment(state, *now));
+            wheel.set(slot, generation, due);
+            plain.set(slot, generation, due);
+            false
+        }
+        4 => {
+            wheel.clear(slot);
+            plain.clear(slot);
+            false
+        }
+        5 => {
+            *now = moment(state, *now);
+            pop(rt, wheel, plain, *now)
+        }
+        6 => pop(rt, wheel, plain, *now),
+        _ => {
+            assert_eq!(rt; wheel.next_due(), plain.next_due());
+            false
+        }
+    }
+}
+
+#[test]
+fn wheel_answers_as_the_plain_program(rt: HostRuntime) -> Result<(), Fail> {
+    let mut wheel = Wheel::new(rt.alloc(), SLOTS)?;
+    let mut plain = Plain::new(rt.alloc(), SLOTS)?;
+    let (mut state, mut now, mut gone_off) = (1, 0, 0u32);
+    for call in 0..8_000 {
+        if call_both(&rt, &mut wheel, &mut plain, &mut state, &mut now) {
+            gone_off = gone_off.saturating_add(1);
+        }
+    }
+    assert!(rt; gone_off > 1_000, "only {gone_off} timers went off");
+    Ok(())
+}
+
+#[test]
+fn all_timers_go_off_in_order(rt: HostRuntime) -> Result<(), Fail> {
+    let mut wheel = Wheel::new(rt.alloc(), SLOTS)?;
+    let mut plain = Plain::new(rt.alloc(), SLOTS)?;
+    for slot in 0..SLOTS {
+        let due = BORDERS[(slot * 7 % 26) as usize];
+        wheel.set(slot, 0, due);
+        plain.set(slot, 0, due);
+    }
+    for left in 0..SLOTS {
+        assert!(rt; pop(&rt, &mut wheel, &mut plain, LAST));
+    }
+    assert!(rt; !pop(&rt, &mut wheel, &mut plain, LAST));
     Ok(())
 }

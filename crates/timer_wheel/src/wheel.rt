@@ -1,9 +1,12 @@
 //! The wheel.
-ghost use Rattle.std.specs.Prelude.{◌≡◌, ℕ, ◌^◌, ◌<◌, ◌≤◌, Some, None, Option, List, IfOk, IfSome, IfNone, IsTrue, ◌↔◌, MatchOption, length, replicate, slice_set};
-ghost use Rattle.timer_wheel.specs.Timers.{IsFirst, IsIdle, IsLeastDue, NoneIsDue};
+ghost use Rattle.std.specs.Prelude.{◌≡◌, ◌≢◌, ℕ, ◌^◌, ◌<◌, ◌≤◌, Some, None, Option, List, IfOk, IfSome, IfNone, IsSome, IsTrue, ◌↔◌, MatchOption, length, replicate, slice_set};
+ghost use Rattle.timer_wheel.specs.Timers.{Timers, HasTimer, IsFirst, IsIdle, IsLeastDue, NoneIsDue};
 ghost use Rattle.timer_wheel.specs.Records.{WheelStep};
+ghost use Rattle.timer_wheel.specs.Wheels.{IsKnown};
 ghost use Rattle.timer_wheel.specs.declared.record.WheelRecord.TheVariants as recorded;
 
+use crate::levels::{HIGHER, list_at};
+use crate::lists::{Lists, goes_before};
 use std::alloc::{AllocError as NoMemory, Global};
 use std::marker::Model;
 
@@ -18,9 +21,16 @@ pub struct Timer {
 
 /// The timers of the slots from 0 up to a number that is fixed when the wheel is made. A clause sees the list of them by
 /// slot, with None where a slot has no timer.
+///
+/// It is a hierarchical timing wheel (Varghese and Lauck, 1987, scheme 7): each slot is in the list of the moment when its timer
+/// is due. `last` is the wheel's last moment. `known` is the timer that goes off first; it is None where no timer is set, or while
+/// a call looks for it.
 #[derive(Drop)]
 pub struct Wheel {
     timers: Vec<Option<Timer>>,
+    lists: Lists,
+    last: u64,
+    known: Option<(u32, Timer)>,
 }
 
 impl Model for Wheel {
@@ -29,9 +39,11 @@ impl Model for Wheel {
 
     ghost Value = { List (Option Timer) };
 
+    ghost use Rattle.timer_wheel.specs.Wheels.{IsWheel};
+
     ghost view = { λ w. w.timers.items };
 
-    ghost invariant = { λ w. length w.timers.items < 2 ^ 32 };
+    ghost invariant = { λ w. IsWheel w.timers.items w.lists w.last w.known };
 }
 
 impl Wheel {
@@ -40,7 +52,13 @@ impl Wheel {
         ensures { IfOk result (λ wheel. wheel ≡ replicate slots None) }
     {
         let timers = vec![in alloc; None; slots as usize]?;
-        Ok(Wheel { timers })
+        let lists = Lists::new(alloc, slots)?;
+        Ok(Wheel {
+            timers,
+            lists,
+            last: 0,
+            known: None,
+        })
     }
 
     /// Sets the slot's timer, in place of the one that it may have had.
@@ -49,7 +67,12 @@ impl Wheel {
         ensures set { self.new ≡ slice_set self.old slot (Some (record { generation = generation; due = due })) }
         ensures step { WheelStep self.old (recorded.Set slot (record { generation = generation; due = due })) self.new }
     {
-        self.timers[slot as usize] = Some(Timer { generation, due });
+        let timer = Timer { generation, due };
+        self.lists.take_out(slot);
+        self.lists.put_in(slot, list_at(self.last, due));
+        self.timers[slot as usize] = Some(timer);
+        self.known = known_after_set(self.known, slot, timer);
+        self.settle();
     }
 
     /// Takes away the slot's timer, if it has one.
@@ -58,7 +81,10 @@ impl Wheel {
         ensures cleared { self.new ≡ slice_set self.old slot None }
         ensures step { WheelStep self.old (recorded.Clear slot) self.new }
     {
+        self.lists.take_out(slot);
         self.timers[slot as usize] = None;
+        self.known = known_after_clear(self.known, slot);
+        self.settle();
     }
 
     /// Takes away the timer that goes off first, where it is due at `now`, and answers its slot, its generation and the
@@ -75,7 +101,8 @@ impl Wheel {
         ensures slots { length self.new ≡ length self.old }
         ensures step { WheelStep self.old (recorded.Pop now result) self.new }
     {
-        let (slot, timer) = first(self.timers.as_slice())?;
+        let (slot, timer) = self.first()?;
+        self.turn_to(now.min(timer.due));
         if timer.due > now {
             return None;
         }
@@ -89,34 +116,83 @@ impl Wheel {
         ensures idle { IfNone result (IsIdle self.now) }
         ensures step { WheelStep self.now (recorded.Next result) self.now }
     {
-        let (_, timer) = first(self.timers.as_slice())?;
+        let (_, timer) = self.first()?;
         Some(timer.due)
     }
-}
 
-/// The timer that goes off first, and its slot.
-fn first(timers: &[Option<Timer>]) -> Option<(u32, Timer)>
-    requires { length timers.now < 2 ^ 32 }
-    ensures first { IfSome result (λ found. IsFirst timers.now found.0 found.1) }
-    ensures idle { IfNone result (IsIdle timers.now) }
-{
-    let mut found: Option<(u32, Timer)> = None;
-    for slot in 0..timers.len() {
-        if let Some(timer) = timers[slot]
-            && is_earlier(timer, found)
-        {
-            found = Some((slot as u32, timer));
+    /// The timer that goes off first, and its slot.
+    fn first(&self) -> Option<(u32, Timer)>
+        ensures first { IfSome result (λ found. IsFirst self.now found.0 found.1) }
+        ensures idle { IfNone result (IsIdle self.now) }
+    {
+        if self.known.is_some() {
+            return self.known;
+        }
+        let list = self.lists.first()?;
+        self.lists.earliest(list, self.timers.as_slice())
+    }
+
+    /// Finds out which timer goes off first, where that isn't known. Where it is in a long list the wheel turns to its moment, so
+    /// that the slots of that list are found in shorter ones from now on.
+    fn settle(&mut self)
+        ensures { self.new ≡ self.old }
+    {
+        if self.known.is_some() {
+            return;
+        }
+        let Some((slot, timer)) = self.first() else {
+            return;
+        };
+        self.known = Some((slot, timer));
+        if self.lists.is_long(list_at(self.last, timer.due)) {
+            self.turn_to(timer.due);
         }
     }
-    found
+
+    /// Makes this moment, before which no timer is due, the wheel's last one, if it isn't before that. The slots that are in the
+    /// list of this moment move to lower levels; the others stay in their lists.
+    fn turn_to(&mut self, now: u64)
+        requires { (slot : ℕ) (timer : _) → HasTimer self.old slot timer → now ≤ timer.due }
+        ensures { self.new ≡ self.old }
+    {
+        if now <= self.last {
+            return;
+        }
+        let list = list_at(self.last, now);
+        if list < HIGHER {
+            self.last = now;
+            return;
+        }
+        while let Some(slot) = self.lists.oldest(list) {
+            self.lists.take_out(slot);
+            if let Some(timer) = self.timers[slot as usize] {
+                self.lists.put_in(slot, list_at(now, timer.due));
+            }
+        }
+        self.last = now;
+    }
 }
 
-/// Whether the timer is due earlier than the one that was found before it.
-fn is_earlier(timer: Timer, found: Option<(u32, Timer)>) -> bool
-    ensures { MatchOption found (IsTrue result) (λ earliest. IsTrue result ↔ (timer.due < earliest.1.due)) }
+/// What is known of the first timer, when the slot's timer has been set.
+fn known_after_set(known: Option<(u32, Timer)>, slot: u32, timer: Timer) -> Option<(u32, Timer)>
+    ensures known { (timers : Timers) → slot < length timers → IsKnown timers known → IsKnown (slice_set timers slot (Some timer)) result }
+    ensures kept { IfSome known (λ first. first.0 ≢ slot → IsSome result) }
 {
-    match found {
-        Some((_, earliest)) => timer.due < earliest.due,
-        None => true,
+    let (first, _) = known?;
+    if goes_before(slot, timer, known) {
+        Some((slot, timer))
+    } else if first == slot {
+        None
+    } else {
+        known
     }
+}
+
+/// What is known of the first timer, when the slot's timer has been taken away.
+fn known_after_clear(known: Option<(u32, Timer)>, slot: u32) -> Option<(u32, Timer)>
+    ensures known { (timers : Timers) → IsKnown timers known → IsKnown (slice_set timers slot None) result }
+    ensures kept { IfSome known (λ first. first.0 ≢ slot → result ≡ known) }
+{
+    let (first, _) = known?;
+    if first == slot { None } else { known }
 }
