@@ -20,16 +20,16 @@ abbrev pub IsKept : {S : Type 0} → State S Holder → Type 0
 IsKept s = IsBalanced s.views
 
 -- the keeper after one share more is out, and after one came back
-abbrev pub one_more : Holder → Holder
-one_more (Keeper n) = Keeper (n + 1)
-one_more Lent = Lent
-one_more Returned = Returned
+abbrev pub one_more_out : Holder → Holder
+one_more_out (Keeper n) = Keeper (n + 1)
+one_more_out Lent = Lent
+one_more_out Returned = Returned
 
-abbrev pub one_less : Holder → Holder
-one_less (Keeper zero) = Returned
-one_less (Keeper (suc n)) = Keeper n
-one_less Lent = Lent
-one_less Returned = Returned
+abbrev pub one_fewer_out : Holder → Holder
+one_fewer_out (Keeper zero) = Returned
+one_fewer_out (Keeper (suc n)) = Keeper n
+one_fewer_out Lent = Lent
+one_fewer_out Returned = Returned
 
 -- a look changes nothing, and shows that the one who looks is the keeper
 abbrev pub ShowsKeeper : {S : Type 0} → Step S → Me S Holder → ℕ → Me S Holder → Type 0

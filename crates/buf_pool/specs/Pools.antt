@@ -31,10 +31,10 @@ after_give pool = record pool { free = pool.free + 1; out = pool.out - 1 }
 abbrev pub overwritten : List ℕ → List ℕ → List ℕ
 overwritten bytes written = take (length bytes) (written ++ drop (length written) bytes)
 
-abbrev pub pool_code : Coded PoolState
-pool_code =
+abbrev pub coded_pool : Coded PoolState
+coded_pool =
     code_by (LedgerName × (ℕ × ℕ)) (coded× table_id_coded (coded× coded_ℕ coded_ℕ)) (λ p. (p.name, (p.free, p.out))) (λ t. record { name = t.0; free = t.1.0; out = t.1.1 }) (λ _. refl)
 
-abbrev pub block_code : Coded BlockState
-block_code =
+abbrev pub coded_block : Coded BlockState
+coded_block =
     code_by (LedgerName × List ℕ) (coded× table_id_coded (coded_list coded_ℕ)) (λ b. (b.pool, b.bytes)) (λ p. record { pool = p.0; bytes = p.1 }) (λ _. refl)

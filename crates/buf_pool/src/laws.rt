@@ -8,13 +8,13 @@ ghost use Rattle.buf_pool.specs.declared.record.PoolRecord.TheVariants as record
 
 /// For every list of calls: it is a run of the pool exactly where each answer is the one that the numbers give which the
 /// calls before it left, and the pool ends with the numbers that all of them left.
-pub fn a_history_is_a_fold()
+pub fn a_pool_history_is_a_fold()
     ensures fold { (pool after : PoolState) (rs : List Recorded) → Runs PoolStep pool rs after
         ↔ (EachAnswers PoolAnswers pool_after pool rs × (after ≡ folded pool_after pool rs)) }
 {}
 
 /// A call of a pool has one answer, and leaves one pool.
-pub fn each_call_has_one_answer()
+pub fn each_pool_call_has_one_answer()
     ensures take { (pool new new' : PoolState) (taken taken' : Bool) → PoolStep pool (recorded.Take taken) new
         → PoolStep pool (recorded.Take taken') new' → (taken ≡ taken') × (new ≡ new') }
 {}

@@ -1,6 +1,6 @@
 //! A ledger of shares, each of which shows which ledger it is of. It counts for contracts alone.
 ghost use Rattle.std.specs.Prelude.{◌≡◌, ◌+◌, ◌-◌, ◌<◌, IfOk};
-ghost use Rattle.buf_pool.specs.Holders.{IsKept, one_more, one_less, ShowsKeeper};
+ghost use Rattle.buf_pool.specs.Holders.{IsKept, one_more_out, one_fewer_out, ShowsKeeper};
 ghost use Rattle.buf_pool.specs.declared.ledger.Holder.TheVariants.{Keeper, Lent, Returned};
 
 use atomic_table::{Join, Play, Seat, Split, Table, TableRule};
@@ -17,9 +17,9 @@ pub enum Holder {
     Returned,
 }
 
-struct Law;
+struct ShareRule;
 
-impl TableRule<(), Holder, ()> for Law {
+impl TableRule<(), Holder, ()> for ShareRule {
     ghost holds = { λ _. IsKept };
 
     ghost first = { λ _. Keeper 0 };
@@ -28,7 +28,7 @@ impl TableRule<(), Holder, ()> for Law {
 struct Lend;
 
 impl Split<Holder> for Lend {
-    ghost left = { one_more };
+    ghost left = { one_more_out };
 
     ghost right = { λ _. Lent };
 }
@@ -36,7 +36,7 @@ impl Split<Holder> for Lend {
 struct Return;
 
 impl Join<Holder> for Return {
-    ghost both = { λ keeper _. one_less keeper };
+    ghost both = { λ keeper _. one_fewer_out keeper };
 
     ghost spent = { Returned };
 }
@@ -50,7 +50,7 @@ impl Play<(), Holder> for Look {
 /// The ledger. A clause sees its name, which no other ledger has, and how many of its shares are out.
 #[derive(Drop)]
 pub(crate) struct Ledger {
-    table: Table<(), Holder, (), Law, Global>,
+    table: Table<(), Holder, (), ShareRule, Global>,
     keeper: Seat<(), Holder>,
 }
 

@@ -5,11 +5,12 @@
 //! given back once.
 #![tactic(auto)]
 
-pub mod laws;
+mod laws;
 mod ledger;
 mod pool;
 mod record;
 
+pub use laws::{a_pool_history_is_a_fold, blocks_are_conserved, each_pool_call_has_one_answer};
 pub use pool::{BLOCK_SIZE, Block, Pool};
 pub use record::PoolRecord;
 

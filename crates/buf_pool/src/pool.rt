@@ -18,12 +18,12 @@ pub struct Block {
 
 impl Model for Block {
     ghost use Rattle.std.specs.Prelude.{◌≡◌, vec_len};
-    ghost use Rattle.buf_pool.specs.Pools.{BlockState, block_code};
+    ghost use Rattle.buf_pool.specs.Pools.{BlockState, coded_block};
     ghost use Rattle.buf_pool.specs.declared.pool.TheConstants.{BLOCK_SIZE};
 
     ghost Value = { BlockState };
 
-    ghost coded = { block_code };
+    ghost coded = { coded_block };
 
     ghost view = { λ b. record { pool = b.share; bytes = b.memory.items } };
 
@@ -60,12 +60,12 @@ pub struct Pool {
 
 impl Model for Pool {
     ghost use Rattle.std.specs.Prelude.{◌≡◌, ◌+◌, ◌<◌, ◌≤◌, ◌^◌, All, vec_len, vec_capacity};
-    ghost use Rattle.buf_pool.specs.Pools.{PoolState, pool_code};
+    ghost use Rattle.buf_pool.specs.Pools.{PoolState, coded_pool};
     ghost use Rattle.buf_pool.specs.declared.pool.TheConstants.{BLOCK_SIZE};
 
     ghost Value = { PoolState };
 
-    ghost coded = { pool_code };
+    ghost coded = { coded_pool };
 
     ghost view = { λ p. record { name = p.ledger.name; free = vec_len p.free; out = p.ledger.out } };
 

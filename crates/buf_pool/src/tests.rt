@@ -1,3 +1,4 @@
+//! A pool of two blocks and an empty one, also across threads.
 ghost use Rattle.std.specs.Prelude.{◌≡◌, IfOk};
 
 use super::{BLOCK_SIZE, Block, Pool};

@@ -15,7 +15,7 @@ use Rattle.pv_values.specs.declared.block.BlockKind.TheVariants.{Request, Branch
 use Rattle.cfg_tree.specs.declared.raw.RouteKind.{RouteKind}
 use Rattle.cfg_tree.specs.declared.raw.RouteKind.TheVariants.{Route, Begins}
 use Rattle.cfg_tree.specs.Functions.{kind_number, is_same_name, is_same_block}
-use Rattle.cfg_calls.specs.declared.head.Head.{Head}
+use Rattle.cfg_calls.specs.declared.head.BlockHead.{BlockHead}
 use Rattle.cfg_calls.specs.Heads.{shown, same_head, FindsFirst}
 
 -- ---- the first place at which a test passes
@@ -131,7 +131,7 @@ stays None n true h = absurd (h refl refl)
 stays None n false h = refl
 
 -- an earlier one is of its kind and name
-pub found_again : (places : List (Head × ℕ)) (blocks : List Block) (x : Head) → position (is_same_block (shown x)) blocks ≢ None →
+pub found_again : (places : List (BlockHead × ℕ)) (blocks : List Block) (x : BlockHead) → position (is_same_block (shown x)) blocks ≢ None →
     FindsFirst places blocks → FindsFirst places (blocks ++ shown x ∷ [])
 found_again places blocks x some all h =
     let p = is_same_block (shown h) in
@@ -148,9 +148,9 @@ ends None n false h = refl
 ends (Some k) n true h = absurd (some_is_none k (h refl))
 ends (Some k) n false h = refl
 
--- it is the first one, and was put behind the others
-pub found_new : (places new : List (Head × ℕ)) (blocks : List Block) (key x : Head) (n : ℕ) → position (is_same_block (shown x)) blocks ≡ None → shown key ≡ shown x → n ≡ length blocks →
-    ((h : Head) → lookup (same_head h) new ≡ cond (same_head key h) (Some n) (lookup (same_head h) places)) → FindsFirst places blocks → FindsFirst new (blocks ++ shown x ∷ [])
+-- it is the first one, and was put after the others
+pub found_new : (places new : List (BlockHead × ℕ)) (blocks : List Block) (key x : BlockHead) (n : ℕ) → position (is_same_block (shown x)) blocks ≡ None → shown key ≡ shown x → n ≡ length blocks →
+    ((h : BlockHead) → lookup (same_head h) new ≡ cond (same_head key h) (Some n) (lookup (same_head h) places)) → FindsFirst places blocks → FindsFirst new (blocks ++ shown x ∷ [])
 found_new places new blocks key x n none same end put all h =
     let p = is_same_block (shown h) in
     let o = position p blocks in
@@ -165,12 +165,12 @@ pub found_nowhere : FindsFirst [] []
 found_nowhere h = refl
 
 -- ---- a test of kinds and names, in place of this one
-pub by_test : (test : Head → Bool) (h : Head) (places : List (Head × ℕ)) → ((k : Head) → test k ≡ same_head h k) → lookup test places ≡ lookup (same_head h) places
+pub by_test : (test : BlockHead → Bool) (h : BlockHead) (places : List (BlockHead × ℕ)) → ((k : BlockHead) → test k ≡ same_head h k) → lookup test places ≡ lookup (same_head h) places
 by_test test h [] e = refl
 by_test test h (p ∷ ps) e = ap (λ b. cond b (Some p.1) (lookup test ps)) (e p.0) ∙ ap (λ o. cond (same_head h p.0) (Some p.1) o) (by_test test h ps e)
 
 -- the place that is found
-pub place_found : (test : Head → Bool) (h : Head) (places : List (Head × ℕ)) (blocks meant : List Block) → ((k : Head) → test k ≡ same_head h k) →
+pub place_found : (test : BlockHead → Bool) (h : BlockHead) (places : List (BlockHead × ℕ)) (blocks meant : List Block) → ((k : BlockHead) → test k ≡ same_head h k) →
     FindsFirst places blocks → blocks ≡ meant → lookup test places ≡ position (is_same_block (shown h)) meant
 place_found test h places blocks meant e all is = by_test test h places e ∙ all h ∙ ap (position (is_same_block (shown h))) is
 
@@ -182,11 +182,11 @@ copied_none : (r : Option (Bor ℕ)) → is_some r ≡ false → option_copied r
 copied_none (Some b) none = absurd (false≢true (sym none))
 copied_none None none = refl
 
-shown_more : (heads more : List Head) (x : Head) → more ≡ heads ++ x ∷ [] → map shown more ≡ map shown heads ++ shown x ∷ []
+shown_more : (heads more : List BlockHead) (x : BlockHead) → more ≡ heads ++ x ∷ [] → map shown more ≡ map shown heads ++ shown x ∷ []
 shown_more heads more x is = ap (map shown) is ∙ map-append shown heads (x ∷ [])
 
 -- one more, of a kind and name that were there
-pub added_again : (test : Head → Bool) (places new : List (Head × ℕ)) (heads more : List Head) (x : Head) (r : Option (Bor ℕ)) → ((k : Head) → test k ≡ same_head x k) →
+pub added_again : (test : BlockHead → Bool) (places new : List (BlockHead × ℕ)) (heads more : List BlockHead) (x : BlockHead) (r : Option (Bor ℕ)) → ((k : BlockHead) → test k ≡ same_head x k) →
     option_copied r ≡ lookup test places → is_some r ≡ true → new ≡ places → more ≡ heads ++ x ∷ [] → FindsFirst places (map shown heads) → FindsFirst new (map shown more)
 added_again test places new heads more x r e got some kept is all =
     let blocks = map shown heads in
@@ -195,9 +195,9 @@ added_again test places new heads more x r e got some kept is all =
     subst (λ ps. FindsFirst ps (map shown more)) (sym kept) (subst (FindsFirst places) (sym (shown_more heads more x is)) put)
 
 -- one more, of a kind and name that were not
-pub added_new : (test : Head → Bool) (eq : Head → Head → Bool) (places new : List (Head × ℕ)) (heads more : List Head) (key x : Head) (n : ℕ) (r : Option (Bor ℕ)) →
-    ((k : Head) → test k ≡ same_head x k) → ((k q : Head) → eq k q ≡ same_head k q) → option_copied r ≡ lookup test places → is_some r ≡ false → shown key ≡ shown x →
-    n ≡ length heads → ((q : Head) → lookup (eq q) new ≡ cond (eq key q) (Some n) (lookup (eq q) places)) → more ≡ heads ++ x ∷ [] →
+pub added_new : (test : BlockHead → Bool) (eq : BlockHead → BlockHead → Bool) (places new : List (BlockHead × ℕ)) (heads more : List BlockHead) (key x : BlockHead) (n : ℕ) (r : Option (Bor ℕ)) →
+    ((k : BlockHead) → test k ≡ same_head x k) → ((k q : BlockHead) → eq k q ≡ same_head k q) → option_copied r ≡ lookup test places → is_some r ≡ false → shown key ≡ shown x →
+    n ≡ length heads → ((q : BlockHead) → lookup (eq q) new ≡ cond (eq key q) (Some n) (lookup (eq q) places)) → more ≡ heads ++ x ∷ [] →
     FindsFirst places (map shown heads) → FindsFirst new (map shown more)
 added_new test eq places new heads more key x n r e same got none keyed end updates is all =
     let blocks = map shown heads in

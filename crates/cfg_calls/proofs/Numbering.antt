@@ -8,7 +8,7 @@ use Rattle.std.proofs.lemmas.List.{map-append}
 use Rattle.std.proofs.lemmas.List.Sums.{prefix_len-le-length}
 use Rattle.cfg_tree.specs.Names.{var_number}
 use Rattle.cfg_calls.specs.Names.{place_of, with_name}
-use Rattle.cfg_calls.specs.Following.{State, Follows}
+use Rattle.cfg_calls.specs.Following.{CheckState, Follows}
 
 -- the names of items
 pub place_map : {X : Type 0} (f : X → List ℕ) (name : List ℕ) (xs : List X) → position_or_len (λ x. bytes_eq name (f x)) xs ≡ place_of name (map f xs)
@@ -31,7 +31,7 @@ some_if false n = refl
 pub any_found : {X : Type 0} (p : X → Bool) (xs : List X) → list_any p xs ≡ is_some (position p xs)
 any_found p xs = any_is_within p xs ∙ some_if (nat_lt (position_or_len p xs) (length xs)) (position_or_len p xs)
 
--- none passes: the place is behind the last
+-- none passes: the place is after the last
 last_place : {X : Type 0} (p : X → Bool) (xs : List X) → nat_lt (position_or_len p xs) (length xs) ≡ false → position_or_len p xs ≡ length xs
 last_place p xs e = let short = prefix_len-le-length (λ x. not (p x)) xs in grind (arith, nat_tests)
 
@@ -47,7 +47,7 @@ names_map f xs x =
     pick_map f _ _ xs (xs ++ x ∷ []) (any_map f (f x) xs) ∙ ap (λ l. if list_any (bytes_eq (f x)) (map f xs) then map f xs else l) (map-append f xs (x ∷ []))
 
 -- a name is numbered by its place
-number_by : (name : List ℕ) (old : State) (b : Bool) → nat_lt (place_of name old.seen.vars) (length old.seen.vars) ≡ b → list_any (bytes_eq name) old.seen.vars ≡ b →
+number_by : (name : List ℕ) (old : CheckState) (b : Bool) → nat_lt (place_of name old.seen.vars) (length old.seen.vars) ≡ b → list_any (bytes_eq name) old.seen.vars ≡ b →
     Follows (var_number name) old (Some (place_of name old.seen.vars)) (record old { seen = record old.seen { vars = with_name name old.seen.vars } })
 number_by name old true within any = record {
   value_is = rw within refl;
@@ -62,6 +62,6 @@ number_by name old false within any =
       seen_is = rw (within, any) refl;
     }
 
-pub numbers : (name : List ℕ) (old : State) (n : ℕ) (vars : List (List ℕ)) → n ≡ place_of name old.seen.vars → vars ≡ with_name name old.seen.vars →
+pub numbers : (name : List ℕ) (old : CheckState) (n : ℕ) (vars : List (List ℕ)) → n ≡ place_of name old.seen.vars → vars ≡ with_name name old.seen.vars →
     Follows (var_number name) old (Some n) (record old { seen = record old.seen { vars = vars } })
 numbers name old n vars is names = rw (is, names) (number_by name old _ refl (any_is_within (bytes_eq name) old.seen.vars))

@@ -5,6 +5,7 @@ use Rattle.std.specs.Str.{bytes_eq}
 use Rattle.pv_values.specs.declared.refusal.Place.{Place}
 use Rattle.cfg_tree.specs.Names.{named}
 use Rattle.cfg_tree.specs.Refusals.{Refusal, Seen, Outcome, Checked, accepted, refused, join, one, both, three, each, from_some, unless}
+use Rattle.cfg_tree.specs.declared.refusal_kind.RefusalKind.{RefusalKind}
 
 -- without a refusal there is a value
 pub record Stands {A : Type 0} (o : Outcome A) : Type 0 where
@@ -45,10 +46,10 @@ accepted_stands a s = record { gives = λ e. (a, refl) }
 pub accepted_valued : {A : Type 0} (a : A) → Valued (accepted a)
 accepted_valued a = record { after = accepted_stands a }
 
-pub refused_stands : {A : Type 0} (kind : ℕ) (at : Place) (s : Seen) → Stands (refused {A = A} kind at s)
+pub refused_stands : {A : Type 0} (kind : RefusalKind) (at : Place) (s : Seen) → Stands (refused {A = A} kind at s)
 refused_stands kind at s = record { gives = λ e. absurd (some_left _ _ e) }
 
-pub refused_valued : {A : Type 0} (kind : ℕ) (at : Place) → Valued (refused {A = A} kind at)
+pub refused_valued : {A : Type 0} (kind : RefusalKind) (at : Place) → Valued (refused {A = A} kind at)
 refused_valued kind at = record { after = refused_stands kind at }
 
 pub one_valued : {A B : Type 0} (f : A → B) (m : Checked A) → Valued m → Valued (one f m)
@@ -80,7 +81,7 @@ map_all f each_is (x ∷ xs) = (each_is x, map_all f each_is xs)
 pub map_valued : {X A : Type 0} (f : X → Checked A) → ((x : X) → Valued (f x)) → (xs : List X) → Valued (each (map f xs))
 map_valued f each_is xs = each_valued (map f xs) (map_all f each_is xs)
 
-pub from_some_valued : {A B : Type 0} (o : Option A) (kind : ℕ) (at : Place) (next : A → Checked B) → ((a : A) → Valued (next a)) → Valued (from_some o kind at next)
+pub from_some_valued : {A B : Type 0} (o : Option A) (kind : RefusalKind) (at : Place) (next : A → Checked B) → ((a : A) → Valued (next a)) → Valued (from_some o kind at next)
 from_some_valued None kind at next is = refused_valued kind at
 from_some_valued (Some a) kind at next is = is a
 
@@ -98,12 +99,12 @@ if_stands false x y sx sy = sy
 
 -- ---- a table of names
 
-row_valued : {A B : Type 0} (b : Bool) (a : A) (o : Option A) (kind : ℕ) (at : Place) (next : A → Checked B) → Valued (next a) → Valued (from_some o kind at next) →
+row_valued : {A B : Type 0} (b : Bool) (a : A) (o : Option A) (kind : RefusalKind) (at : Place) (next : A → Checked B) → Valued (next a) → Valued (from_some o kind at next) →
     Valued (from_some (if b then Some a else o) kind at next)
 row_valued true a o kind at next here more = here
 row_valued false a o kind at next here more = more
 
-pub named_valued : {A B : Type 0} (name : List ℕ) (rows : List (List ℕ × A)) (kind : ℕ) (at : Place) (next : A → Checked B) → Every (λ (row : List ℕ × A). Valued (next row.1)) rows →
+pub named_valued : {A B : Type 0} (name : List ℕ) (rows : List (List ℕ × A)) (kind : RefusalKind) (at : Place) (next : A → Checked B) → Every (λ (row : List ℕ × A). Valued (next row.1)) rows →
     Valued (from_some (named name rows) kind at next)
 named_valued name [] kind at next every = refused_valued kind at
 named_valued name (row ∷ rows) kind at next every =

@@ -3,7 +3,7 @@ use Rattle.std.specs.Prelude.{ℕ, List, [], ◌∷◌, ◌++◌, if◌then◌el
 use Rattle.std.specs.List.{list_any, position_or_len}
 use Rattle.std.specs.Str.{bytes_eq}
 
--- the place of a name, or the one behind the last
+-- the place of a name, or the one after the last
 abbrev pub place_of : List ℕ → List (List ℕ) → ℕ
 place_of name names = position_or_len (bytes_eq name) names
 

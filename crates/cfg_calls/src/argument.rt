@@ -1,4 +1,4 @@
-// Arguments.
+//! Arguments.
 
 ghost use Rattle.std.specs.Prelude.{◌≡◌, IfOk, option_copied};
 ghost use Rattle.cfg_tree.specs.Functions as functions;
@@ -8,10 +8,8 @@ ghost use Rattle.cfg_calls.specs.Following.{Follows};
 use crate::checker::{Checker, number};
 use crate::joins::one;
 use crate::known::Known;
-use cfg_settings::Kind;
-use cfg_tree::{Part, RawArg, RouteKind, Word};
-use pv_values::number::text_number;
-use pv_values::{Place, Val, as_text};
+use cfg_tree::{Part, RawArg, RefusalKind, RouteKind, Word};
+use pv_values::{Place, Val, as_text, text_number};
 use sqlite_items::Items;
 use std::alloc::AllocError as NoMemory;
 
@@ -83,7 +81,7 @@ impl Checker {
     {
         match known.block(self.alloc(), kind, word.text.bytes())? {
             Some(place) => Ok(Some(number(place)?)),
-            None => self.refuse(Kind::UnknownRoute, word.at),
+            None => self.refuse(RefusalKind::UnknownRoute, word.at),
         }
     }
 
@@ -98,7 +96,7 @@ impl Checker {
     {
         match known.table(name) {
             Some(place) => Ok(Some(number(place)?)),
-            None => self.refuse(Kind::UnknownVariable, at),
+            None => self.refuse(RefusalKind::UnknownVariable, at),
         }
     }
 }

@@ -1,15 +1,15 @@
-// What is kept while a script is checked.
+//! What is kept while a script is checked.
 
 ghost use Rattle.std.specs.Prelude.{◌≡◌, ◌≤◌, ◌+◌, ◌^◌, ◌++◌, ◌∷◌, [], length, IfOk, OnOk, OnErr};
 ghost use Rattle.cfg_tree.specs.Checks as checks;
 ghost use Rattle.cfg_tree.specs.Names as names;
 ghost use Rattle.cfg_tree.specs.Functions as functions;
-ghost use Rattle.cfg_tree.specs.Refusals.{refused};
-ghost use Rattle.cfg_settings.specs.Kinds.{number_of};
-ghost use Rattle.cfg_calls.specs.Following.{State, Follows, Counts};
+ghost use Rattle.cfg_tree.specs.Refusals.{refusal, refused};
+ghost use Rattle.cfg_calls.specs.Following.{CheckState, Follows, Counts};
 
 use crate::vars::Names;
-use cfg_settings::{Kind, Refusal};
+use cfg_settings::Refusal;
+use cfg_tree::RefusalKind;
 use pv_values::{PatternText, Place};
 use sqlite_items::Items;
 use std::alloc::{AllocError as NoMemory, Global};
@@ -32,9 +32,9 @@ pub struct Checker {
 }
 
 impl Model for Checker {
-    ghost use Rattle.cfg_calls.specs.Following.{State};
+    ghost use Rattle.cfg_calls.specs.Following.{CheckState};
 
-    ghost Value = { State };
+    ghost Value = { CheckState };
 
     ghost view = { λ c. record {
       refusals = c.refusals;
@@ -87,16 +87,16 @@ impl Checker {
     }
 
     /// Notes a refusal beside what is read.
-    pub fn note(&mut self, kind: Kind, at: Place) -> Result<(), NoMemory>
+    pub fn note(&mut self, kind: RefusalKind, at: Place) -> Result<(), NoMemory>
         ensures seen { OnOk result (self.new.seen ≡ self.old.seen) }
-        ensures refusals { OnOk result (self.new.refusals ≡ self.old.refusals ++ (record { kind = number_of kind; at = at }) ∷ []) }
+        ensures refusals { OnOk result (self.new.refusals ≡ self.old.refusals ++ refusal kind at ∷ []) }
     {
         self.refusals.push(Refusal::new(kind, at))
     }
 
     /// Refuses what stands here: there is no value.
-    pub fn refuse<T: Drop>(&mut self, kind: Kind, at: Place) -> Result<Option<T>, NoMemory>
-        ensures { IfOk result (λ v. Follows (refused (number_of kind) at) self.old v self.new) }
+    pub fn refuse<T: Drop>(&mut self, kind: RefusalKind, at: Place) -> Result<Option<T>, NoMemory>
+        ensures { IfOk result (λ v. Follows (refused kind at) self.old v self.new) }
     {
         self.refusals.push(Refusal::new(kind, at))?;
         Ok(None)
@@ -115,23 +115,23 @@ impl Checker {
         ensures { IfOk result (λ v. Follows (functions.pattern_number at source.now) self.old v self.new) }
     {
         let Some(pattern) = PatternText::new(self.alloc, source)? else {
-            return self.refuse(Kind::BadPattern, at);
+            return self.refuse(RefusalKind::BadPattern, at);
         };
         let place = self.patterns.len();
         if place >= PATTERNS {
-            return self.refuse(Kind::TooLarge, at);
+            return self.refuse(RefusalKind::TooLarge, at);
         }
         self.patterns.push(pattern)?;
         Ok(Some(number(place)?))
     }
 
-    /// Counts a statement, and answers whether it is one of those that a script may have.
+    /// Counts a statement, and tells whether it is one of those that a script may have.
     pub fn count(&mut self, at: Place) -> Result<bool, NoMemory>
         ensures { IfOk result (λ within. Counts at self.old within self.new) }
     {
         let within = self.statements < STATEMENTS;
         if !within {
-            self.refusals.push(Refusal::new(Kind::TooLarge, at))?;
+            self.refusals.push(Refusal::new(RefusalKind::TooLarge, at))?;
         }
         self.statements = one_more(self.statements)?;
         Ok(within)

@@ -17,8 +17,8 @@ use crate::argument::{literal, number_argument};
 use crate::checker::Checker;
 use crate::joins;
 use crate::known::Known;
-use cfg_settings::{Kind, table_and_key};
-use cfg_tree::{Part, RawArg, RouteKind, Word};
+use cfg_settings::table_and_key;
+use cfg_tree::{Part, RawArg, RefusalKind, RouteKind, Word};
 use pv_values::{BlockKind, Func, FuncName, Place, Text};
 use sqlite_items::Items;
 use std::alloc::{AllocError as NoMemory, Global};
@@ -48,6 +48,13 @@ fn call_with(
         Some(argument) => Ok(Some((func, joins::one(alloc, argument)?))),
         None => Ok(None),
     }
+}
+
+/// A call with these expanded arguments.
+fn call_of(func: Func, arguments: Option<Items<Items<Part>>>) -> Option<Call>
+    ensures { result ≡ option_map (λ ps. (func, ps)) arguments }
+{
+    Some((func, arguments?))
 }
 
 /// The lists of two expanded arguments.
@@ -146,7 +153,7 @@ impl Checker {
         ensures { IfOk result (λ v. Follows (functions.plain func known.now at args.now) self.old v self.new) }
     {
         if !args.is_empty() {
-            return self.refuse(Kind::WrongArguments, at);
+            return self.refuse(RefusalKind::WrongArguments, at);
         }
         Ok(Some((func, Items::new(self.alloc()))))
     }
@@ -162,7 +169,7 @@ impl Checker {
         ensures { IfOk result (λ v. Follows (functions.expanding func known.now at args.now) self.old v self.new) }
     {
         let [x] = args else {
-            return self.refuse(Kind::WrongArguments, at);
+            return self.refuse(RefusalKind::WrongArguments, at);
         };
         let x = self.expanded(known, x)?;
         call_with(self.alloc(), func, x)
@@ -184,7 +191,22 @@ impl Checker {
         self.expanding(known, func, at, args)
     }
 
+    /// The parts of two arguments that are expanded.
+    fn expanded_two(
+        &mut self,
+        known: &Known,
+        first: &RawArg,
+        second: &RawArg,
+    ) -> Result<Option<Items<Items<Part>>>, NoMemory>
+        ensures { IfOk result (λ v. Follows (both (λ p q. p ∷ q ∷ []) (functions.expanded_arg known.now first.now) (functions.expanded_arg known.now second.now)) self.old v self.new) }
+    {
+        let first = self.expanded(known, first)?;
+        let second = self.expanded(known, second)?;
+        two(self.alloc(), first, second)
+    }
+
     /// `(x, x)`
+    #[tactic(auto, using(crate::proofs::Follows::follows_mapped))]
     fn expanding_two(
         &mut self,
         known: &Known,
@@ -195,14 +217,10 @@ impl Checker {
         ensures { IfOk result (λ v. Follows (functions.expanding_two func known.now at args.now) self.old v self.new) }
     {
         let [x, y] = args else {
-            return self.refuse(Kind::WrongArguments, at);
+            return self.refuse(RefusalKind::WrongArguments, at);
         };
-        let x = self.expanded(known, x)?;
-        let y = self.expanded(known, y)?;
-        match two(self.alloc(), x, y)? {
-            Some(arguments) => Ok(Some((func, arguments))),
-            None => Ok(None),
-        }
+        let arguments = self.expanded_two(known, x, y)?;
+        Ok(call_of(func, arguments))
     }
 
     /// `(code, x)`: 100 to 699
@@ -217,10 +235,10 @@ impl Checker {
         ensures { (made : ℕ → Called) → Makes 65536 (F.post make) made → IfOk result (λ v. Follows (functions.replying made known.now at args.now) self.old v self.new) }
     {
         let [code, x] = args else {
-            return self.refuse(Kind::WrongArguments, at);
+            return self.refuse(RefusalKind::WrongArguments, at);
         };
         let Some(code) = number_argument(code, 100, 699) else {
-            return self.refuse(Kind::WrongArguments, at);
+            return self.refuse(RefusalKind::WrongArguments, at);
         };
         let x = self.expanded(known, x)?;
         call_with(self.alloc(), make(code), x)
@@ -236,14 +254,14 @@ impl Checker {
         ensures { IfOk result (λ v. Follows (functions.counting func.MfProcessMaxfwdHeader known.now at args.now) self.old v self.new) }
     {
         let [n] = args else {
-            return self.refuse(Kind::WrongArguments, at);
+            return self.refuse(RefusalKind::WrongArguments, at);
         };
         match number_argument(n, 1, 255) {
             Some(n) => {
                 let func = Func::MfProcessMaxfwdHeader(n as u8);
                 Ok(bare_call(self.alloc(), Some(func)))
             }
-            None => self.refuse(Kind::WrongArguments, at),
+            None => self.refuse(RefusalKind::WrongArguments, at),
         }
     }
 
@@ -258,7 +276,7 @@ impl Checker {
         ensures { (known : WhatIsKnown) (made : List ℕ → Called) → MakesText (F.post make) made → IfOk result (λ v. Follows (functions.taking_text made known at args.now) self.old v self.new) }
     {
         let Some(word) = only_literal(args) else {
-            return self.refuse(Kind::WrongArguments, at);
+            return self.refuse(RefusalKind::WrongArguments, at);
         };
         let func = make(word.text.copy(self.alloc())?);
         Ok(bare_call(self.alloc(), Some(func)))
@@ -269,10 +287,10 @@ impl Checker {
         ensures { (known : _) → IfOk result (λ v. Follows (functions.taking_removable func.RemoveHf known at args.now) self.old v self.new) }
     {
         let Some(word) = only_literal(args) else {
-            return self.refuse(Kind::WrongArguments, at);
+            return self.refuse(RefusalKind::WrongArguments, at);
         };
         if is_needed(word.text.bytes()) {
-            return self.refuse(Kind::WrongArguments, at);
+            return self.refuse(RefusalKind::WrongArguments, at);
         }
         let func = Func::RemoveHf(word.text.copy(self.alloc())?);
         Ok(bare_call(self.alloc(), Some(func)))
@@ -291,7 +309,7 @@ impl Checker {
         ensures { (made : ℕ → Called) → Makes 4294967296 (F.post make) made → IfOk result (λ v. Follows (functions.taking_block (Begins kind) made known.now at args.now) self.old v self.new) }
     {
         let Some(word) = only_literal(args) else {
-            return self.refuse(Kind::WrongArguments, at);
+            return self.refuse(RefusalKind::WrongArguments, at);
         };
         let block = self.block_number(known, RouteKind::Begins(kind), word)?;
         let func = block.map(make);
@@ -303,7 +321,7 @@ impl Checker {
         ensures { (known : _) → IfOk result (λ v. Follows (functions.taking_pattern func.TCheckStatus known at args.now) self.old v self.new) }
     {
         let Some(word) = only_literal(args) else {
-            return self.refuse(Kind::WrongArguments, at);
+            return self.refuse(RefusalKind::WrongArguments, at);
         };
         let pattern = self.pattern_number(word.at, word.text.bytes())?;
         let func = pattern.map(Func::TCheckStatus);
@@ -320,7 +338,7 @@ impl Checker {
         ensures { IfOk result (λ v. Follows (functions.taking_table func.ShtReset known.now at args.now) self.old v self.new) }
     {
         let Some(word) = only_literal(args) else {
-            return self.refuse(Kind::WrongArguments, at);
+            return self.refuse(RefusalKind::WrongArguments, at);
         };
         let table = self.table_number(known, word.at, word.text.bytes())?;
         let func = table.map(Func::ShtReset);
@@ -337,28 +355,14 @@ impl Checker {
         ensures { IfOk result (λ v. Follows (functions.taking_table_pattern func.ShtRmNameRe known.now at args.now) self.old v self.new) }
     {
         let Some(word) = only_literal(args) else {
-            return self.refuse(Kind::WrongArguments, at);
+            return self.refuse(RefusalKind::WrongArguments, at);
         };
         let Some((table, pattern)) = table_and_key(word.text.bytes()) else {
-            return self.refuse(Kind::WrongArguments, at);
+            return self.refuse(RefusalKind::WrongArguments, at);
         };
         let table = self.table_number(known, word.at, table)?;
         let pattern = self.pattern_number(word.at, pattern)?;
         Ok(bare_call(self.alloc(), removal(table, pattern)))
-    }
-
-    /// The parts of two arguments that are expanded.
-    fn expanded_two(
-        &mut self,
-        known: &Known,
-        first: &RawArg,
-        second: &RawArg,
-    ) -> Result<Option<Items<Items<Part>>>, NoMemory>
-        ensures { IfOk result (λ v. Follows (both (λ p q. p ∷ q ∷ []) (functions.expanded_arg known.now first.now) (functions.expanded_arg known.now second.now)) self.old v self.new) }
-    {
-        let first = self.expanded(known, first)?;
-        let second = self.expanded(known, second)?;
-        two(self.alloc(), first, second)
     }
 
     /// `(x, x, "route")`
@@ -372,10 +376,10 @@ impl Checker {
         ensures { IfOk result (λ v. Follows (functions.continuing func.TContinue known.now at args.now) self.old v self.new) }
     {
         let [index, label, route] = args else {
-            return self.refuse(Kind::WrongArguments, at);
+            return self.refuse(RefusalKind::WrongArguments, at);
         };
         let Some(route) = literal(route) else {
-            return self.refuse(Kind::WrongArguments, at);
+            return self.refuse(RefusalKind::WrongArguments, at);
         };
         let arguments = self.expanded_two(known, index, label)?;
         let block = self.block_number(known, RouteKind::Route, route)?;
@@ -393,7 +397,7 @@ impl Checker {
     {
         match args {
             [RawArg::String(_), _, ..] => self.expanding(known, Func::Xlog, at, &args[1..]),
-            [_, _, ..] => self.refuse(Kind::WrongArguments, at),
+            [_, _, ..] => self.refuse(RefusalKind::WrongArguments, at),
             _ => self.expanding(known, Func::Xlog, at, args),
         }
     }
@@ -454,12 +458,12 @@ impl Checker {
         ensures { IfOk result (λ v. Follows (functions.function_call known.now kind word.now args.now) self.old v self.new) }
     {
         let Some(function) = FuncName::named(word.text.bytes()) else {
-            return self.refuse(Kind::UnknownFunction, word.at);
+            return self.refuse(RefusalKind::UnknownFunction, word.at);
         };
         if may_stand(function, kind) {
             return self.with_arguments(known, function, word.at, args);
         }
-        self.note(Kind::WrongBlock, word.at)?;
+        self.note(RefusalKind::WrongBlock, word.at)?;
         self.with_arguments(known, function, word.at, args)?;
         Ok(None)
     }

@@ -10,44 +10,44 @@ use std::alloc::{AllocError as NoMemory, Global};
 /// A kind of blocks, and a name or none.
 #[derive(Drop, PartialEq, Eq)]
 #[derive_where(Hash)]
-pub struct Head {
+pub struct BlockHead {
     #[derive_where(skip(Hash))]
     kind: RouteKind,
     name: Option<Vec<u8>>,
 }
 
-impl Head {
+impl BlockHead {
     /// Without a name.
-    pub fn unnamed(kind: RouteKind) -> Head
+    pub fn unnamed(kind: RouteKind) -> BlockHead
         ensures { shown result ≡ (kind, None) }
     {
-        Head { kind, name: None }
+        BlockHead { kind, name: None }
     }
 
-    pub fn named(alloc: Global, kind: RouteKind, name: &[u8]) -> Result<Head, NoMemory>
+    pub fn named(alloc: Global, kind: RouteKind, name: &[u8]) -> Result<BlockHead, NoMemory>
         ensures { IfOk result (λ h. shown h ≡ (kind, Some name.now)) }
     {
         let name = Some(Vec::from_slice(alloc, name)?);
-        Ok(Head { kind, name })
+        Ok(BlockHead { kind, name })
     }
 
     /// The kind and the name of this block.
-    pub fn of(alloc: Global, block: &RawBlock) -> Result<Head, NoMemory>
+    pub fn of(alloc: Global, block: &RawBlock) -> Result<BlockHead, NoMemory>
         ensures { IfOk result (λ h. shown h ≡ block_name block.now) }
     {
         match &block.name {
-            Some(name) => Head::named(alloc, block.kind, name.text.bytes()),
-            None => Ok(Head::unnamed(block.kind)),
+            Some(name) => BlockHead::named(alloc, block.kind, name.text.bytes()),
+            None => Ok(BlockHead::unnamed(block.kind)),
         }
     }
 
     /// The same kind and name.
-    pub fn copy(&self, alloc: Global) -> Result<Head, NoMemory>
+    pub fn copy(&self, alloc: Global) -> Result<BlockHead, NoMemory>
         ensures { IfOk result (λ h. shown h ≡ shown self.now) }
     {
         match &self.name {
-            Some(name) => Head::named(alloc, self.kind, name.as_slice()),
-            None => Ok(Head::unnamed(self.kind)),
+            Some(name) => BlockHead::named(alloc, self.kind, name.as_slice()),
+            None => Ok(BlockHead::unnamed(self.kind)),
         }
     }
 }

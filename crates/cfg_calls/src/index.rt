@@ -5,20 +5,20 @@ ghost use Rattle.std.specs.List.{list_any};
 ghost use Rattle.cfg_tree.specs.Functions.{is_same_block};
 ghost use Rattle.cfg_calls.specs.Heads.{shown};
 
-use crate::head::Head;
+use crate::head::BlockHead;
 use indexmap::IndexMap;
 use std::alloc::{AllocError as NoMemory, Global};
 use std::marker::Model;
 
 /// The kinds and names of blocks, in the order in which they are written.
 #[derive(Drop)]
-pub struct Blocks {
-    heads: Vec<Head>,
+pub struct BlockIndex {
+    heads: Vec<BlockHead>,
     /// The place of the first block of each kind and name.
-    places: IndexMap<Head, usize>,
+    places: IndexMap<BlockHead, usize>,
 }
 
-impl Model for Blocks {
+impl Model for BlockIndex {
     ghost use Rattle.std.specs.Prelude.{List, ℕ, Option, map};
     ghost use Rattle.cfg_tree.specs.declared.raw.RouteKind.{RouteKind};
     ghost use Rattle.cfg_calls.specs.Heads.{shown, FindsFirst};
@@ -30,11 +30,11 @@ impl Model for Blocks {
     ghost invariant = { λ b. ∥ FindsFirst b.places.entries (map shown b.heads.items) ∥₁ };
 }
 
-impl Blocks {
-    pub fn new(alloc: Global) -> Blocks
+impl BlockIndex {
+    pub fn new(alloc: Global) -> BlockIndex
         ensures { result ≡ [] }
     {
-        Blocks {
+        BlockIndex {
             heads: Vec::new(alloc),
             places: IndexMap::new(alloc),
         }
@@ -48,24 +48,24 @@ impl Blocks {
     }
 
     /// The place of the first block of this kind and name.
-    pub fn place(&self, head: &Head) -> Option<usize>
+    pub fn place(&self, head: &BlockHead) -> Option<usize>
         ensures { result ≡ position (is_same_block (shown head.now)) self.now }
     {
         self.places.get(head).copied()
     }
 
     /// Whether one of the blocks is of this kind and name.
-    pub fn has(&self, head: &Head) -> bool
+    pub fn has(&self, head: &BlockHead) -> bool
         ensures { result ≡ list_any (is_same_block (shown head.now)) self.now }
     {
         self.place(head).is_some()
     }
 
-    /// With one more block behind the others.
-    pub fn with(self, alloc: Global, head: Head) -> Result<Blocks, NoMemory>
+    /// With one more block after the others.
+    pub fn with(self, alloc: Global, head: BlockHead) -> Result<BlockIndex, NoMemory>
         ensures { IfOk result (λ blocks. blocks ≡ self ++ shown head ∷ []) }
     {
-        let Blocks {
+        let BlockIndex {
             mut heads,
             mut places,
         } = self;
@@ -76,6 +76,6 @@ impl Blocks {
             };
         }
         heads.push(head)?;
-        Ok(Blocks { heads, places })
+        Ok(BlockIndex { heads, places })
     }
 }

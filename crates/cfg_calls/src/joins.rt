@@ -1,4 +1,4 @@
-// Values that are there only where nothing was refused, and what is made of several of them.
+//! Values that are there only where nothing was refused, and what is made of several of them.
 
 ghost use Rattle.std.specs.Prelude.{◌≡◌, ◌++◌, ◌∷◌, [], IfOk, option_map};
 ghost use Rattle.cfg_tree.specs.Refusals.{join};
@@ -23,7 +23,7 @@ pub fn with_item<T: Drop>(
     }
 }
 
-/// A list with more items behind it.
+/// A list with more items after it.
 pub fn with_items<T: Drop>(
     list: Option<Items<T>>,
     more: Option<Items<T>>,

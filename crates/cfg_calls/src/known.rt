@@ -1,11 +1,11 @@
-// What is known of a whole script before its blocks are checked.
+//! What is known of a whole script before its blocks are checked.
 
 ghost use Rattle.std.specs.Prelude.{◌≡◌, Some, None, IfOk, position};
 ghost use Rattle.std.specs.Str.{bytes_eq};
 ghost use Rattle.cfg_tree.specs.Functions as functions;
 
-use crate::head::Head;
-use crate::index::Blocks;
+use crate::head::BlockHead;
+use crate::index::BlockIndex;
 use cfg_tree::RouteKind;
 use pv_values::Text;
 use sqlite_items::Items;
@@ -15,7 +15,7 @@ use std::marker::Model;
 /// The blocks with their kinds and names, and the names of the tables, in the order in which they are written.
 #[derive(Drop)]
 pub struct Known {
-    blocks: Blocks,
+    blocks: BlockIndex,
     tables: Items<Text>,
 }
 
@@ -28,7 +28,7 @@ impl Model for Known {
 }
 
 impl Known {
-    pub fn new(blocks: Blocks, tables: Items<Text>) -> Known
+    pub fn new(blocks: BlockIndex, tables: Items<Text>) -> Known
         ensures { result ≡ record { blocks = blocks; tables = tables } }
     {
         Known { blocks, tables }
@@ -53,13 +53,13 @@ impl Known {
     ) -> Result<Option<usize>, NoMemory>
         ensures { IfOk result (λ place. place ≡ position (functions.is_same_block (kind, Some name.now)) self.now.blocks) }
     {
-        Ok(self.blocks.place(&Head::named(alloc, kind, name)?))
+        Ok(self.blocks.place(&BlockHead::named(alloc, kind, name)?))
     }
 
     /// The place of the block of this kind without a name.
     pub fn unnamed(&self, kind: RouteKind) -> Option<usize>
         ensures { result ≡ position (functions.is_same_block (kind, None)) self.now.blocks }
     {
-        self.blocks.place(&Head::unnamed(kind))
+        self.blocks.place(&BlockHead::unnamed(kind))
     }
 }

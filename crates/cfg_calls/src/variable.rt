@@ -1,4 +1,4 @@
-// Variables, and the texts that are expanded.
+//! Variables, and the texts that are expanded.
 
 ghost use Rattle.std.specs.Prelude.{◌≡◌, IfOk, option_map};
 ghost use Rattle.cfg_tree.specs.Names as names;
@@ -8,14 +8,15 @@ ghost use Rattle.cfg_tree.specs.declared.script.Part.TheViews.{roll-Part};
 ghost use Rattle.cfg_lex.specs.Pieces.{as_piece};
 ghost use Rattle.cfg_calls.specs.Following.{Follows};
 ghost use Rattle.cfg_calls.specs.Layers.{piece_within, var_layer, avp_layer, header_layer, suspension_layer};
+ghost use Rattle.cfg_tree.specs.declared.refusal_kind.RefusalKind.TheVariants.{UnknownVariable};
 
 use crate::checker::{Checker, number};
 use crate::host;
 use crate::joins::with_item;
 use crate::known::Known;
 use cfg_lex::{Piece, pieces};
-use cfg_settings::{Kind, table_and_key};
-use cfg_tree::{Part, RawVariable, TableUse, Variable};
+use cfg_settings::table_and_key;
+use cfg_tree::{Part, RawVariable, RefusalKind, TableUse, Variable};
 use pv_values::{Place, PvUse, Text, Transformation};
 use sqlite_items::{Boxed, Items};
 use std::alloc::{AllocError as NoMemory, Global};
@@ -60,7 +61,7 @@ impl Checker {
         }
         match host::variable(name) {
             Some(variable) => Ok(Some(Part::Host(variable))),
-            None => self.refuse(Kind::UnknownVariable, at),
+            None => self.refuse(RefusalKind::UnknownVariable, at),
         }
     }
 
@@ -69,7 +70,7 @@ impl Checker {
         ensures { IfOk result (λ v. Follows (one roll-Part (var_layer at name.now)) self.old v self.new) }
     {
         if name.is_empty() {
-            return self.refuse(Kind::UnknownVariable, at);
+            return self.refuse(RefusalKind::UnknownVariable, at);
         }
         let n = self.var_number(name)?;
         Ok(n.map(Part::Var))
@@ -81,7 +82,7 @@ impl Checker {
     {
         let name = avp_name(inner);
         if name.is_empty() {
-            return self.refuse(Kind::UnknownVariable, at);
+            return self.refuse(RefusalKind::UnknownVariable, at);
         }
         let name = Text::from_slice(self.alloc(), name)?;
         Ok(Some(Part::Host(PvUse::Avp(name))))
@@ -92,7 +93,7 @@ impl Checker {
         ensures { IfOk result (λ v. Follows (one roll-Part (header_layer at name.now)) self.old v self.new) }
     {
         if name.is_empty() {
-            return self.refuse(Kind::UnknownVariable, at);
+            return self.refuse(RefusalKind::UnknownVariable, at);
         }
         let name = Text::from_slice(self.alloc(), name)?;
         Ok(Some(Part::Host(PvUse::Header(name))))
@@ -104,17 +105,17 @@ impl Checker {
     {
         match host::suspension_variable(name) {
             Some(variable) => Ok(Some(Part::Host(variable))),
-            None => self.refuse(Kind::UnknownVariable, at),
+            None => self.refuse(RefusalKind::UnknownVariable, at),
         }
     }
 
     /// The transformation of this name.
     fn transformation(&mut self, at: Place, name: &[u8]) -> Result<Option<Transformation>, NoMemory>
-        ensures { IfOk result (λ v. Follows (from_some (names.named name.now names.transformation_names) 9 at accepted) self.old v self.new) }
+        ensures { IfOk result (λ v. Follows (from_some (names.named name.now names.transformation_names) UnknownVariable at accepted) self.old v self.new) }
     {
         match host::transformation(name) {
             Some(transformation) => Ok(Some(transformation)),
-            None => self.refuse(Kind::UnknownVariable, at),
+            None => self.refuse(RefusalKind::UnknownVariable, at),
         }
     }
 
@@ -131,10 +132,10 @@ impl Checker {
         ensures { IfOk result (λ v. Follows (one roll-Part (names.item_layer known.now (names.expansion_within depth known.now at) at way inner.now)) self.old v self.new) }
     {
         let Some((table, key)) = table_and_key(inner) else {
-            return self.refuse(Kind::UnknownVariable, at);
+            return self.refuse(RefusalKind::UnknownVariable, at);
         };
         let Some(place) = known.table(table) else {
-            return self.refuse(Kind::UnknownVariable, at);
+            return self.refuse(RefusalKind::UnknownVariable, at);
         };
         let table = number(place)?;
         match self.expansion_within(depth, known, at, key)? {
@@ -166,7 +167,7 @@ impl Checker {
         } else {
             match host::table_use(name) {
                 Some(way) => self.item(depth, known, at, way, inner),
-                None => self.refuse(Kind::UnknownVariable, at),
+                None => self.refuse(RefusalKind::UnknownVariable, at),
             }
         }
     }
@@ -222,7 +223,7 @@ impl Checker {
     {
         match piece {
             Piece::Plain(text) => Ok(Some(Part::Text(text.copy(self.alloc())?))),
-            Piece::Of(_) if depth == 0 => self.refuse(Kind::UnknownVariable, at),
+            Piece::Of(_) if depth == 0 => self.refuse(RefusalKind::UnknownVariable, at),
             Piece::Of(v) => self.variable_within(depth - 1, known, at, v),
         }
     }
@@ -239,7 +240,7 @@ impl Checker {
         ensures { IfOk result (λ v. Follows (names.expansion_within depth known.now at text.now) self.old v self.new) }
     {
         let Some(pieces) = pieces(self.alloc(), text)? else {
-            return self.refuse(Kind::UnknownVariable, at);
+            return self.refuse(RefusalKind::UnknownVariable, at);
         };
         let mut parts = Some(Items::new(self.alloc()));
         for piece in &pieces {

@@ -1,4 +1,4 @@
-// The names of `$var`.
+//! The names of `$var`.
 
 ghost use Rattle.std.specs.Prelude.{◌≡◌, [], length, IfOk};
 ghost use Rattle.cfg_calls.specs.Names.{place_of, with_name};
@@ -37,7 +37,7 @@ impl Names {
         self.set.len()
     }
 
-    /// The place of a name, which is put behind the others where it is new.
+    /// The place of a name, which is put after the others where it is new.
     pub fn place(&mut self, alloc: Global, name: &[u8]) -> Result<usize, NoMemory>
         ensures place { IfOk result (λ n. n ≡ place_of name.now self.old) }
         ensures names { IfOk result (λ _. self.new ≡ with_name name.now self.old) }

@@ -10,7 +10,7 @@ use Rattle.cfg_tree.specs.declared.script.Stmt.{Stmt}
 use Rattle.cfg_tree.specs.Names.{Known}
 use Rattle.cfg_tree.specs.Refusals.{Checked, join, each}
 use Rattle.cfg_tree.specs.Checks.{stmt_in, all_in, block_of, blocks_of, body_in, bodies_in}
-use Rattle.cfg_calls.specs.Following.{State, Follows}
+use Rattle.cfg_calls.specs.Following.{CheckState, Follows}
 use Rattle.cfg_calls.proofs.Follows.{follows_each_more}
 
 blocks_step : (items : List RawItem) (i : ℕ) (x : RawItem) → i < length items → x ≡ get_or items i x → blocks_of (take (i + 1) items) ≡ blocks_of (take i items) ++ block_of x
@@ -26,10 +26,10 @@ no_block (item.Module w) h = refl
 no_block (item.ModuleParameter of w value) h = refl
 
 -- the bodies of the blocks among the items up to a place
-abbrev pub BodiesUpTo : Known → List RawItem → ℕ → State → Option (List (List Stmt)) → State → Type 0
+abbrev pub BodiesUpTo : Known → List RawItem → ℕ → CheckState → Option (List (List Stmt)) → CheckState → Type 0
 BodiesUpTo known items i old bodies now = Follows (each (map (body_in known) (blocks_of (take i items)))) old bodies now
 
-pub one_body : (known : Known) (items : List RawItem) (i : ℕ) (x : RawItem) (b : RawBlock) (stmts : List RawStmt) (old now new : State) (bodies more : Option (List (List Stmt)))
+pub one_body : (known : Known) (items : List RawItem) (i : ℕ) (x : RawItem) (b : RawBlock) (stmts : List RawStmt) (old now new : CheckState) (bodies more : Option (List (List Stmt)))
     (body : Option (List Stmt)) → i < length items → x ≡ get_or items i x → x ≡ item.Block b → stmts ≡ b.body → BodiesUpTo known items i old bodies now →
     Follows (all_in (map (stmt_in known b.kind) stmts)) now body new → more ≡ join (λ xs x. xs ++ x ∷ []) bodies body → BodiesUpTo known items (i + 1) old more new
 one_body known items i x b stmts old now new bodies more body lt is block whole before read made =
@@ -41,13 +41,13 @@ one_body known items i x b stmts old now new bodies more body lt is block whole 
     subst (λ (ms : List (Checked (List Stmt))). Follows (each ms) old more new) (sym next)
     (follows_each_more (map (body_in known) bs) (body_in known b) old now new bodies body more before body_is made)
 
-pub no_body : (known : Known) (items : List RawItem) (i : ℕ) (x : RawItem) (old now : State) (bodies : Option (List (List Stmt))) →
+pub no_body : (known : Known) (items : List RawItem) (i : ℕ) (x : RawItem) (old now : CheckState) (bodies : Option (List (List Stmt))) →
     i < length items → x ≡ get_or items i x → block_of x ≡ [] → BodiesUpTo known items i old bodies now → BodiesUpTo known items (i + 1) old bodies now
 no_body known items i x old now bodies lt is none before =
     let bs = blocks_of (take i items) in
     let next : blocks_of (take (i + 1) items) ≡ bs = blocks_step items i x lt is ∙ ap (λ cs. bs ++ cs) none ∙ append-nil bs in
     subst (λ (cs : List RawBlock). Follows (each (map (body_in known) cs)) old bodies now) (sym next) before
 
-pub all_bodies : (known : Known) (items : List RawItem) (i : ℕ) (old now : State) (bodies : Option (List (List Stmt))) → length items ≤ i → BodiesUpTo known items i old bodies now →
+pub all_bodies : (known : Known) (items : List RawItem) (i : ℕ) (old now : CheckState) (bodies : Option (List (List Stmt))) → length items ≤ i → BodiesUpTo known items i old bodies now →
     Follows (bodies_in known (blocks_of items)) old bodies now
 all_bodies known items i old now bodies past h = subst (λ (xs : List RawItem). Follows (each (map (body_in known) (blocks_of xs))) old bodies now) (take_all i items past) h

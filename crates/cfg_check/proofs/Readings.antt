@@ -11,23 +11,23 @@ use Rattle.cfg_tree.specs.Refusals.{Refusal, Seen}
 use Rattle.cfg_tree.specs.Settings.{Settings, settings_of, setting_refusals}
 use Rattle.cfg_tree.specs.Functions.{is_same_block}
 use Rattle.cfg_tree.specs.Checks.{block_name, blocks_of, block_refusals, bodies_in, known_of, nothing_seen, bodies_of, unnamed, no_request, refusals_of}
-use Rattle.cfg_calls.specs.Following.{State, Follows}
+use Rattle.cfg_calls.specs.Following.{CheckState, Follows}
 use Rattle.cfg_check.specs.Reading.{IsRead}
 use Rattle.cfg_check.specs.declared.script.Read.{Read}
 
--- the bodies, behind what was refused before
-pub record AreBodies (raw : RawScript) (before : List Refusal) (bodies : Option (List (List Stmt))) (new : State) : Type 0 where
+-- the bodies, after what was refused before
+pub record AreBodies (raw : RawScript) (before : List Refusal) (bodies : Option (List (List Stmt))) (new : CheckState) : Type 0 where
   pub value_is : bodies ≡ (bodies_of raw).value
   pub refusals_are : new.refusals ≡ before ++ (bodies_of raw).refusals
   pub seen_is : new.seen ≡ (bodies_of raw).seen
 
-pub bodies_follow : (raw : RawScript) (known : Known) (before : List Refusal) (old new : State) (bodies : Option (List (List Stmt))) → known ≡ known_of raw →
+pub bodies_follow : (raw : RawScript) (known : Known) (before : List Refusal) (old new : CheckState) (bodies : Option (List (List Stmt))) → known ≡ known_of raw →
     old ≡ record { refusals = before; seen = nothing_seen } → Follows (bodies_in known (blocks_of raw.items)) old bodies new → AreBodies raw before bodies new
 unfolding bodies_of
 bodies_follow raw known before old new bodies same begun h =
     let bs = blocks_of raw.items in
     let g = subst (λ (k : Known). Follows (bodies_in k bs) old bodies new) same h in
-    let f = subst (λ (s : State). Follows (bodies_in (known_of raw) bs) s bodies new) begun g in
+    let f = subst (λ (s : CheckState). Follows (bodies_in (known_of raw) bs) s bodies new) begun g in
     record { value_is = f.value_is; refusals_are = f.refusals_are; seen_is = f.seen_is }
 
 -- the refusals of the settings, of the blocks, of their bodies, and of the tree that has no request_route
@@ -53,7 +53,7 @@ same_known raw items settings known blocks tables same set named told is =
     ∙ ap (known_with (map block_name (blocks_of raw.items))) (told ∙ ap (λ (s : Settings). map (λ t. t.0) s.tables) set)
 
 pub is_read : (raw : RawScript) (items : List RawItem) (read : Read) (known : Known) (blocks : List (RouteKind × Option (List ℕ))) (tables : List (List ℕ))
-    (begun first second : List Refusal) (old now new : State) → items ≡ raw.items → begun ≡ [] →
+    (begun first second : List Refusal) (old now new : CheckState) → items ≡ raw.items → begun ≡ [] →
     read.settings ≡ settings_of items → first ≡ begun ++ setting_refusals items →
     blocks ≡ map block_name (blocks_of items) → second ≡ first ++ block_refusals [] (blocks_of items) →
     tables ≡ map (λ t. t.0) read.settings.tables → known ≡ record { blocks = blocks; tables = tables } →

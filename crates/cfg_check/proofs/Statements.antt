@@ -23,7 +23,7 @@ use Rattle.cfg_tree.specs.declared.script.Stmt.TheViews.{roll-Stmt}
 use Rattle.cfg_tree.specs.Names.{Known}
 use Rattle.cfg_tree.specs.Refusals.{Checked, accepted, join, one, both, three, each}
 use Rattle.cfg_tree.specs.Checks.{expr_in, call_in, target_of, maybe_expr, maybe, numbered, all_in, stmt_step, stmt_in}
-use Rattle.cfg_calls.specs.Following.{State, Follows, Counts, within_limit}
+use Rattle.cfg_calls.specs.Following.{CheckState, Follows, Counts, within_limit}
 use Rattle.cfg_check.specs.Cases.{Begins, case_in, cases_in, switch_in}
 use Rattle.cfg_calls.proofs.Follows.{follows_accepted, follows_one, follows_both, follows_three, follows_numbered, ok_follows}
 
@@ -32,7 +32,7 @@ single = option_map (λ s. s ∷ [])
 
 -- ---- a statement that is counted
 
-counted : (at : Place) (m : Checked (List Stmt)) (a b d : State) (within : Bool) (v : Option (List Stmt)) (r : Result (Option (List Stmt)) AllocError) →
+counted : (at : Place) (m : Checked (List Stmt)) (a b d : CheckState) (within : Bool) (v : Option (List Stmt)) (r : Result (Option (List Stmt)) AllocError) →
     Counts at a within b → Follows m b v d → IfOk r (λ x. x ≡ within_limit within v) → IfOk r (λ x. Follows (numbered at m) a x d)
 counted at m a b d within v r counts h made =
     ok_follows (numbered at m) a d (within_limit within v) r (follows_numbered at m a b d within v (within_limit within v) counts h refl) made
@@ -41,7 +41,7 @@ within_single : (within : Bool) (s : Option Stmt) → single (within_limit withi
 within_single true s = refl
 within_single false s = refl
 
-alone : (at : Place) (m : Checked (List Stmt)) (a b d : State) (within : Bool) (s : Option Stmt) (v : Option (List Stmt)) (r : Result (Option (List Stmt)) AllocError) →
+alone : (at : Place) (m : Checked (List Stmt)) (a b d : CheckState) (within : Bool) (s : Option Stmt) (v : Option (List Stmt)) (r : Result (Option (List Stmt)) AllocError) →
     Counts at a within b → Follows m b v d → v ≡ single s → IfOk r (λ x. x ≡ single (within_limit within s)) → IfOk r (λ x. Follows (numbered at m) a x d)
 alone at m a b d within s v r counts h is made =
     counted at m a b d within v r counts h (subst (λ y. IfOk r (λ x. x ≡ y)) (within_single within s ∙ ap (within_limit within) (sym is)) made)
@@ -62,11 +62,11 @@ three_single f (Some a) None z = refl
 three_single f (Some a) (Some b) None = refl
 three_single f (Some a) (Some b) (Some c) = refl
 
-pub simple_follows : (at : Place) (s : Stmt) (a b : State) (within : Bool) (r : Result (Option (List Stmt)) AllocError) → Counts at a within b →
+pub simple_follows : (at : Place) (s : Stmt) (a b : CheckState) (within : Bool) (r : Result (Option (List Stmt)) AllocError) → Counts at a within b →
     IfOk r (λ x. x ≡ single (within_limit within (Some s))) → IfOk r (λ x. Follows (numbered at (accepted (s ∷ []))) a x b)
 simple_follows at s a b within r counts made = alone at (accepted (s ∷ [])) a b b within (Some s) (Some (s ∷ [])) r counts (follows_accepted (s ∷ []) b) refl made
 
-pub set_follows : (known : Known) (kind : RouteKind) (at : Place) (v : RawVariable) (e : RawExpr) (a b c d : State) (within : Bool) (target : Option Target) (value : Option Expr) (s : Option Stmt)
+pub set_follows : (known : Known) (kind : RouteKind) (at : Place) (v : RawVariable) (e : RawExpr) (a b c d : CheckState) (within : Bool) (target : Option Target) (value : Option Expr) (s : Option Stmt)
     (r : Result (Option (List Stmt)) AllocError) → Counts at a within b → Follows (target_of known kind v) b target c → Follows (expr_in known kind e) c value d →
     s ≡ join (λ t x. roll-Stmt (Stmt-F.Set t x)) target value → IfOk r (λ x. x ≡ single (within_limit within s)) → IfOk r (λ x. Follows (stmt_step known kind (RawStmt-F.Set at v e)) a x d)
 set_follows known kind at v e a b c d within target value s r counts first second is made =
@@ -74,7 +74,7 @@ set_follows known kind at v e a b c d within target value s r counts first secon
     (follows_both (λ t x. roll-Stmt (Stmt-F.Set t x) ∷ []) (target_of known kind v) (expr_in known kind e) b c d target value _ first second refl)
     (join_single (λ t x. roll-Stmt (Stmt-F.Set t x)) target value ∙ ap single (sym is)) made
 
-pub do_follows : (known : Known) (kind : RouteKind) (at : Place) (call : RawCall) (a b d : State) (within : Bool) (e : Option Expr) (s : Option Stmt) (r : Result (Option (List Stmt)) AllocError) →
+pub do_follows : (known : Known) (kind : RouteKind) (at : Place) (call : RawCall) (a b d : CheckState) (within : Bool) (e : Option Expr) (s : Option Stmt) (r : Result (Option (List Stmt)) AllocError) →
     Counts at a within b → Follows (call_in known kind call) b e d → s ≡ option_map (λ x. roll-Stmt (Stmt-F.Do x)) e → IfOk r (λ x. x ≡ single (within_limit within s)) →
     IfOk r (λ x. Follows (stmt_step known kind (RawStmt-F.Do at call)) a x d)
 do_follows known kind at call a b d within e s r counts first is made =
@@ -82,7 +82,7 @@ do_follows known kind at call a b d within e s r counts first is made =
     (follows_one (λ x. roll-Stmt (Stmt-F.Do x) ∷ []) (call_in known kind call) b d e _ first refl)
     (map_single (λ x. roll-Stmt (Stmt-F.Do x)) e ∙ ap single (sym is)) made
 
-pub return_follows : (known : Known) (kind : RouteKind) (at : Place) (e : Option RawExpr) (a b d : State) (within : Bool) (v : Option (Option Expr)) (s : Option Stmt) (r : Result (Option (List Stmt)) AllocError) →
+pub return_follows : (known : Known) (kind : RouteKind) (at : Place) (e : Option RawExpr) (a b d : CheckState) (within : Bool) (v : Option (Option Expr)) (s : Option Stmt) (r : Result (Option (List Stmt)) AllocError) →
     Counts at a within b → Follows (maybe_expr known kind e) b v d → s ≡ option_map (λ x. roll-Stmt (Stmt-F.Return x)) v → IfOk r (λ x. x ≡ single (within_limit within s)) →
     IfOk r (λ x. Follows (stmt_step known kind (RawStmt-F.Return at e)) a x d)
 return_follows known kind at e a b d within v s r counts first is made =
@@ -90,21 +90,21 @@ return_follows known kind at e a b d within v s r counts first is made =
     (follows_one (λ x. roll-Stmt (Stmt-F.Return x) ∷ []) (maybe_expr known kind e) b d v _ first refl)
     (map_single (λ x. roll-Stmt (Stmt-F.Return x)) v ∙ ap single (sym is)) made
 
-pub empty_follows : (at : Place) (a b : State) (within : Bool) (xs : List Stmt) (r : Option (List Stmt)) → Counts at a within b → xs ≡ [] → r ≡ within_limit within (Some xs) → Follows (numbered at (accepted [])) a r b
+pub empty_follows : (at : Place) (a b : CheckState) (within : Bool) (xs : List Stmt) (r : Option (List Stmt)) → Counts at a within b → xs ≡ [] → r ≡ within_limit within (Some xs) → Follows (numbered at (accepted [])) a r b
 empty_follows at a b within xs r counts none is =
     follows_numbered at (accepted []) a b b within (Some []) r counts (follows_accepted [] b) (is ∙ ap (λ x. within_limit within (Some x)) none)
 
 -- ---- statements with others in them
 
-pub group_follows : (at : Place) (m : Checked (List Stmt)) (a b d : State) (within : Bool) (v r : Option (List Stmt)) → Counts at a within b → Follows m b v d → r ≡ within_limit within v → Follows (numbered at m) a r d
+pub group_follows : (at : Place) (m : Checked (List Stmt)) (a b d : CheckState) (within : Bool) (v r : Option (List Stmt)) → Counts at a within b → Follows m b v d → r ≡ within_limit within v → Follows (numbered at m) a r d
 group_follows at m a b d within v r counts h is = follows_numbered at m a b d within v r counts h is
 
-pub case_follows : (known : Known) (kind : RouteKind) (item : Val × List RawStmt) (body' : List RawStmt) (b d : State) (v : Option (List Stmt)) (r : Option (Val × List Stmt)) → body' ≡ item.1 →
+pub case_follows : (known : Known) (kind : RouteKind) (item : Val × List RawStmt) (body' : List RawStmt) (b d : CheckState) (v : Option (List Stmt)) (r : Option (Val × List Stmt)) → body' ≡ item.1 →
     Follows (all_in (map (stmt_in known kind) body')) b v d → r ≡ option_map (λ ss. (item.0, ss)) v → Follows (case_in known kind item) b r d
 case_follows known kind item body' b d v r same h is =
     follows_one (λ ss. (item.0, ss)) (all_in (map (stmt_in known kind) item.1)) b d v r (subst (λ l. Follows (all_in (map (stmt_in known kind) l)) b v d) same h) is
 
-pub if_follows : (known : Known) (kind : RouteKind) (at : Place) (e : RawExpr) (m n : Checked (List Stmt)) (other : Option (Checked (List Stmt))) (a b c d f : State) (within : Bool)
+pub if_follows : (known : Known) (kind : RouteKind) (at : Place) (e : RawExpr) (m n : Checked (List Stmt)) (other : Option (Checked (List Stmt))) (a b c d f : CheckState) (within : Bool)
     (test : Option Expr) (first second : Option (List Stmt)) (s : Option Stmt) (r : Result (Option (List Stmt)) AllocError) → n ≡ maybe other →
     Counts at a within b → Follows (expr_in known kind e) b test c → Follows m c first d → Follows n d second f →
     s ≡ join {A = List Stmt → Stmt} (λ g x. g x) (join (λ e ss more. roll-Stmt (Stmt-F.If e ss more)) test first) second → IfOk r (λ x. x ≡ single (within_limit within s)) →
@@ -116,7 +116,7 @@ if_follows known kind at e m n other a b c d f within test first second s r same
     (follows_three (λ e ss more. roll-Stmt (Stmt-F.If e ss more) ∷ []) (expr_in known kind e) m (maybe other) b c d f test first second _ first_follows second_follows last' refl)
     (three_single (λ e ss more. roll-Stmt (Stmt-F.If e ss more)) test first second ∙ ap single (sym is)) made
 
-pub while_follows : (known : Known) (kind : RouteKind) (at : Place) (e : RawExpr) (m : Checked (List Stmt)) (a b c d : State) (within : Bool) (test : Option Expr) (body : Option (List Stmt)) (s : Option Stmt)
+pub while_follows : (known : Known) (kind : RouteKind) (at : Place) (e : RawExpr) (m : Checked (List Stmt)) (a b c d : CheckState) (within : Bool) (test : Option Expr) (body : Option (List Stmt)) (s : Option Stmt)
     (r : Result (Option (List Stmt)) AllocError) → Counts at a within b → Follows (expr_in known kind e) b test c → Follows m c body d →
     s ≡ join (λ e ss. roll-Stmt (Stmt-F.While e ss)) test body → IfOk r (λ x. x ≡ single (within_limit within s)) → IfOk r (λ x. Follows (stmt_step known kind (RawStmt-F.While at e m)) a x d)
 while_follows known kind at e m a b c d within test body s r counts first second is made =
@@ -124,7 +124,7 @@ while_follows known kind at e m a b c d within test body s r counts first second
     (follows_both (λ e ss. roll-Stmt (Stmt-F.While e ss) ∷ []) (expr_in known kind e) m b c d test body _ first second refl)
     (join_single (λ e ss. roll-Stmt (Stmt-F.While e ss)) test body ∙ ap single (sym is)) made
 
-pub switch_follows : (known : Known) (kind : RouteKind) (at : Place) (e : RawExpr) (cases : List (Val × List RawStmt)) (default : List RawStmt) (a b c d f : State) (within : Bool)
+pub switch_follows : (known : Known) (kind : RouteKind) (at : Place) (e : RawExpr) (cases : List (Val × List RawStmt)) (default : List RawStmt) (a b c d f : CheckState) (within : Bool)
     (value : Option Expr) (bodies : Option (List (Val × List Stmt))) (last : Option (List Stmt)) (s : Option Stmt) (r : Result (Option (List Stmt)) AllocError) →
     Counts at a within b → Follows (expr_in known kind e) b value c → Follows (cases_in known kind cases) c bodies d → Follows (all_in (map (stmt_in known kind) default)) d last f →
     s ≡ join {A = List Stmt → Stmt} (λ g x. g x) (join (λ e cs last. roll-Stmt (Stmt-F.Switch e cs last)) value bodies) last → IfOk r (λ x. x ≡ single (within_limit within s)) →
@@ -217,7 +217,7 @@ pair_and f true (Some e) None z = refl
 pair_and f true (Some e) (Some x) None = refl
 pair_and f true (Some e) (Some x) (Some o) = refl
 
-pub if_stmt : (known : Known) (kind : RouteKind) (s : RawStmt) (at : Place) (e : RawExpr) (first first' : RawStmt) (other : Option RawStmt) (a d f : State) (begun : Option (Expr × List Stmt))
+pub if_stmt : (known : Known) (kind : RouteKind) (s : RawStmt) (at : Place) (e : RawExpr) (first first' : RawStmt) (other : Option RawStmt) (a d f : CheckState) (begun : Option (Expr × List Stmt))
     (others : Option (List Stmt)) (st : Option Stmt) (r : Result (Option (List Stmt)) AllocError) → s ≡ raw.If at e first other → first' ≡ first → Begins known kind at e (stmt_in known kind first') a begun d →
     Follows (maybe (option_map (stmt_in known kind) other)) d others f → st ≡ join (λ (p : Expr × List Stmt) (more : List Stmt). roll-Stmt (Stmt-F.If p.0 p.1 more)) begun others → IfOk r (λ x. x ≡ single st) →
     IfOk r (λ x. Follows (stmt_in known kind s) a x f)
@@ -229,7 +229,7 @@ if_stmt known kind s at e first first' other a d f begun others st r is same h o
     (if_follows known kind at e (stmt_in known kind first') (maybe (option_map (stmt_in known kind) other)) (option_map (stmt_in known kind) other) a h.counted h.tested d f h.within h.value h.second others whole r refl
     h.counts h.tests h.follows other_follows refl (subst (λ y. IfOk r (λ x. x ≡ single y)) st_is answer))
 
-pub while_stmt : (known : Known) (kind : RouteKind) (s : RawStmt) (at : Place) (e : RawExpr) (body body' : RawStmt) (a d : State) (begun : Option (Expr × List Stmt)) (st : Option Stmt)
+pub while_stmt : (known : Known) (kind : RouteKind) (s : RawStmt) (at : Place) (e : RawExpr) (body body' : RawStmt) (a d : CheckState) (begun : Option (Expr × List Stmt)) (st : Option Stmt)
     (r : Result (Option (List Stmt)) AllocError) → s ≡ raw.While at e body → body' ≡ body → Begins known kind at e (stmt_in known kind body') a begun d →
     st ≡ option_map (λ (p : Expr × List Stmt). roll-Stmt (Stmt-F.While p.0 p.1)) begun → IfOk r (λ x. x ≡ single st) → IfOk r (λ x. Follows (stmt_in known kind s) a x d)
 while_stmt known kind s at e body body' a d begun st r is same h made answer =
@@ -239,7 +239,7 @@ while_stmt known kind s at e body body' a d begun st r is same h made answer =
     (while_follows known kind at e (stmt_in known kind body') a h.counted h.tested d h.within h.value h.second (join g h.value h.second) r h.counts h.tests h.follows refl
     (subst (λ y. IfOk r (λ x. x ≡ single y)) st_is answer))
 
-pub switch_stmt : (known : Known) (kind : RouteKind) (s : RawStmt) (at : Place) (e : RawExpr) (cases cases' : List (Val × List RawStmt)) (default default' : List RawStmt) (a d f : State)
+pub switch_stmt : (known : Known) (kind : RouteKind) (s : RawStmt) (at : Place) (e : RawExpr) (cases cases' : List (Val × List RawStmt)) (default default' : List RawStmt) (a d f : CheckState)
     (begun : Option (Expr × List (Val × List Stmt))) (last : Option (List Stmt)) (st : Option Stmt) (r : Result (Option (List Stmt)) AllocError) →
     s ≡ raw.Switch at e cases default → cases' ≡ cases → default' ≡ default → Begins known kind at e (cases_in known kind cases') a begun d →
     Follows (all_in (map (stmt_in known kind) default')) d last f → st ≡ join (λ (p : Expr × List (Val × List Stmt)) (more : List Stmt). roll-Stmt (Stmt-F.Switch p.0 p.1 more)) begun last →
@@ -251,7 +251,7 @@ switch_stmt known kind s at e cases cases' default default' a d f begun last st 
     subst (λ k. IfOk r (λ x. Follows k a x f)) (fits_switch known kind s at e cases cases' default default' is same same')
     (switch_follows known kind at e cases' default' a h.counted h.tested d f h.within h.value h.second last whole r h.counts h.tests h.follows lasts refl (subst (λ y. IfOk r (λ x. x ≡ single y)) st_is answer))
 
-pub case_answers : (known : Known) (kind : RouteKind) (item : Val × List RawStmt) (body' : List RawStmt) (b d : State) (v : Option (List Stmt)) (r : Result (Option (Val × List Stmt)) AllocError) → body' ≡ item.1 →
+pub case_answers : (known : Known) (kind : RouteKind) (item : Val × List RawStmt) (body' : List RawStmt) (b d : CheckState) (v : Option (List Stmt)) (r : Result (Option (Val × List Stmt)) AllocError) → body' ≡ item.1 →
     Follows (all_in (map (stmt_in known kind) body')) b v d → IfOk r (λ x. x ≡ option_map (λ ss. (item.0, ss)) v) → IfOk r (λ x. Follows (case_in known kind item) b x d)
 case_answers known kind item body' b d v r same h made =
     ok_follows (case_in known kind item) b d (option_map (λ ss. (item.0, ss)) v) r (case_follows known kind item body' b d v _ same h refl) made

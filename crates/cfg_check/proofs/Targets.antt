@@ -10,9 +10,10 @@ use Rattle.cfg_tree.specs.declared.script.Part.{Part}
 use Rattle.cfg_tree.specs.declared.script.Part.TheViews.{roll-Part, out-Part, out-roll-Part}
 use Rattle.cfg_tree.specs.declared.script.Target.{Target}
 use Rattle.cfg_tree.specs.Names.{Known, Layer, layer_of, part_of}
-use Rattle.cfg_tree.specs.Refusals.{Refusal, Seen, refused}
+use Rattle.cfg_tree.specs.Refusals.{refusal, Refusal, refused}
 use Rattle.cfg_tree.specs.Checks.{target_in, target_of, found, found_as}
-use Rattle.cfg_calls.specs.Following.{State, Follows}
+use Rattle.cfg_calls.specs.Following.{CheckState, Follows}
+use Rattle.cfg_tree.specs.declared.refusal_kind.RefusalKind.TheVariants.{NotWritable}
 
 -- the layer of a part that is made of one
 layer_none : (l : Option Layer) → None ≡ option_map roll-Part l → l ≡ None
@@ -25,41 +26,41 @@ layer_some part (Some x) h =
     let same : part ≡ roll-Part x = cc in
     ap Some (sym (ap out-Part same ∙ out-roll-Part x))
 
-pub target_none : (known : Known) (kind : RouteKind) (v : RawVariable) (a b : State) (p : Option Part) → p ≡ None → Follows (part_of known v.at v.variable) a p b → Follows (target_of known kind v) a None b
+pub target_none : (known : Known) (kind : RouteKind) (v : RawVariable) (a b : CheckState) (p : Option Part) → p ≡ None → Follows (part_of known v.at v.variable) a p b → Follows (target_of known kind v) a None b
 target_none known kind v a b p is h =
     let read = layer_of known v.at v.variable a.seen in
     let none : read.value ≡ None = layer_none read.value (sym is ∙ h.value_is) in
     record {
-      value_is = sym (ap (λ l. (found 10 v.at (target_in kind) read.refusals read.seen l).value) none);
-      refusals_are = h.refusals_are ∙ sym (ap (λ l. a.refusals ++ (found 10 v.at (target_in kind) read.refusals read.seen l).refusals) none);
-      seen_is = h.seen_is ∙ sym (ap (λ l. (found 10 v.at (target_in kind) read.refusals read.seen l).seen) none);
+      value_is = sym (ap (λ l. (found NotWritable v.at (target_in kind) read.refusals read.seen l).value) none);
+      refusals_are = h.refusals_are ∙ sym (ap (λ l. a.refusals ++ (found NotWritable v.at (target_in kind) read.refusals read.seen l).refusals) none);
+      seen_is = h.seen_is ∙ sym (ap (λ l. (found NotWritable v.at (target_in kind) read.refusals read.seen l).seen) none);
     }
 
-pub target_some : (known : Known) (kind : RouteKind) (v : RawVariable) (a b : State) (p : Option Part) (part : Part) (t : Target) → p ≡ Some part → Follows (part_of known v.at v.variable) a p b → Some t ≡ target_in kind (out-Part part) → Follows (target_of known kind v) a (Some t) b
+pub target_some : (known : Known) (kind : RouteKind) (v : RawVariable) (a b : CheckState) (p : Option Part) (part : Part) (t : Target) → p ≡ Some part → Follows (part_of known v.at v.variable) a p b → Some t ≡ target_in kind (out-Part part) → Follows (target_of known kind v) a (Some t) b
 target_some known kind v a b p part t there h is =
     let read = layer_of known v.at v.variable a.seen in
-    let found_is : found 10 v.at (target_in kind) read.refusals read.seen read.value ≡ found_as 10 v.at read.refusals read.seen (Some t) =
-    ap (found 10 v.at (target_in kind) read.refusals read.seen) (layer_some part read.value (sym there ∙ h.value_is)) ∙ ap (found_as 10 v.at read.refusals read.seen) (sym is) in
+    let found_is : found NotWritable v.at (target_in kind) read.refusals read.seen read.value ≡ found_as NotWritable v.at read.refusals read.seen (Some t) =
+    ap (found NotWritable v.at (target_in kind) read.refusals read.seen) (layer_some part read.value (sym there ∙ h.value_is)) ∙ ap (found_as NotWritable v.at read.refusals read.seen) (sym is) in
     record {
       value_is = sym (ap (λ o. o.value) found_is);
       refusals_are = h.refusals_are ∙ sym (ap (λ o. a.refusals ++ o.refusals) found_is);
       seen_is = h.seen_is ∙ sym (ap (λ o. o.seen) found_is);
     }
 
-target_not : (known : Known) (kind : RouteKind) (v : RawVariable) (a b c : State) (p : Option Part) (part : Part) (r : Option Target) → p ≡ Some part →
-    Follows (part_of known v.at v.variable) a p b → None ≡ target_in kind (out-Part part) → Follows (refused 10 v.at) b r c → Follows (target_of known kind v) a r c
-target_not known kind v a b c p part r there h is refusal =
+target_not : (known : Known) (kind : RouteKind) (v : RawVariable) (a b c : CheckState) (p : Option Part) (part : Part) (r : Option Target) → p ≡ Some part →
+    Follows (part_of known v.at v.variable) a p b → None ≡ target_in kind (out-Part part) → Follows (refused NotWritable v.at) b r c → Follows (target_of known kind v) a r c
+target_not known kind v a b c p part r there h is told =
     let read = layer_of known v.at v.variable a.seen in
-    let found_is : found 10 v.at (target_in kind) read.refusals read.seen read.value ≡ found_as 10 v.at read.refusals read.seen None =
-    ap (found 10 v.at (target_in kind) read.refusals read.seen) (layer_some part read.value (sym there ∙ h.value_is)) ∙ ap (found_as 10 v.at read.refusals read.seen) (sym is) in
-    let x : Refusal = record { kind = 10; at = v.at } in
+    let found_is : found NotWritable v.at (target_in kind) read.refusals read.seen read.value ≡ found_as NotWritable v.at read.refusals read.seen None =
+    ap (found NotWritable v.at (target_in kind) read.refusals read.seen) (layer_some part read.value (sym there ∙ h.value_is)) ∙ ap (found_as NotWritable v.at read.refusals read.seen) (sym is) in
+    let x : Refusal = refusal NotWritable v.at in
     record {
-      value_is = refusal.value_is ∙ sym (ap (λ o. o.value) found_is);
-      refusals_are = refusal.refusals_are ∙ ap (λ rs. rs ++ x ∷ []) h.refusals_are ∙ append_assoc a.refusals read.refusals (x ∷ []) ∙ sym (ap (λ o. a.refusals ++ o.refusals) found_is);
-      seen_is = refusal.seen_is ∙ h.seen_is ∙ sym (ap (λ o. o.seen) found_is);
+      value_is = told.value_is ∙ sym (ap (λ o. o.value) found_is);
+      refusals_are = told.refusals_are ∙ ap (λ rs. rs ++ x ∷ []) h.refusals_are ∙ append_assoc a.refusals read.refusals (x ∷ []) ∙ sym (ap (λ o. a.refusals ++ o.refusals) found_is);
+      seen_is = told.seen_is ∙ h.seen_is ∙ sym (ap (λ o. o.seen) found_is);
     }
 
-pub target_refused : (known : Known) (kind : RouteKind) (v : RawVariable) (a b c : State) (p : Option Part) (part : Part) (r : Result (Option Target) AllocError) → p ≡ Some part →
-    Follows (part_of known v.at v.variable) a p b → None ≡ target_in kind (out-Part part) → IfOk r (λ t. Follows (refused 10 v.at) b t c) → IfOk r (λ t. Follows (target_of known kind v) a t c)
-target_refused known kind v a b c p part (Ok t) there h is refusal = target_not known kind v a b c p part t there h is refusal
-target_refused known kind v a b c p part (Err e) there h is refusal = tt
+pub target_refused : (known : Known) (kind : RouteKind) (v : RawVariable) (a b c : CheckState) (p : Option Part) (part : Part) (r : Result (Option Target) AllocError) → p ≡ Some part →
+    Follows (part_of known v.at v.variable) a p b → None ≡ target_in kind (out-Part part) → IfOk r (λ t. Follows (refused NotWritable v.at) b t c) → IfOk r (λ t. Follows (target_of known kind v) a t c)
+target_refused known kind v a b c p part (Ok t) there h is told = target_not known kind v a b c p part t there h is told
+target_refused known kind v a b c p part (Err e) there h is told = tt

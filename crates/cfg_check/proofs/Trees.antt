@@ -18,7 +18,7 @@ use Rattle.cfg_tree.specs.Names.{Known}
 use Rattle.cfg_tree.specs.Functions.{pattern_number}
 use Rattle.cfg_tree.specs.Refusals.{Checked, join, both, one, each}
 use Rattle.cfg_tree.specs.Checks.{expr_step, expr_in}
-use Rattle.cfg_calls.specs.Following.{State, Follows}
+use Rattle.cfg_calls.specs.Following.{CheckState, Follows}
 use Rattle.cfg_calls.proofs.Follows.{follows_both, ok_follows}
 
 -- an operand of a chain, with the operator before it
@@ -31,7 +31,7 @@ chain_is known kind a links =
     ap (expr_in known kind) (sym (rolls-Chain a links)) ∙ fold-roll-RawExpr (Checked Expr) (expr_step known kind) (RawExpr-F.Chain a links)
     ∙ ap (λ ls. both (λ e ls. roll-Expr (Expr-F.Chain e ls)) (expr_in known kind a) (each ls)) (map-map (λ (l : BinOp × Checked Expr). one (λ e. (l.0, e)) l.1) (λ (l : BinOp × RawExpr). (l.0, expr_in known kind l.1)) links)
 
-pub chain_follows : (known : Known) (kind : RouteKind) (e a a' : RawExpr) (links links' : List (BinOp × RawExpr)) (r : Result (Option Expr) AllocError) (v : Option Expr) (w : Option (List (BinOp × Expr))) (s t u : State) →
+pub chain_follows : (known : Known) (kind : RouteKind) (e a a' : RawExpr) (links links' : List (BinOp × RawExpr)) (r : Result (Option Expr) AllocError) (v : Option Expr) (w : Option (List (BinOp × Expr))) (s t u : CheckState) →
     e ≡ Chain a links → a' ≡ a → links' ≡ links → Follows (expr_in known kind a') s v t → Follows (each (map (link_in known kind) links')) t w u →
     IfOk r (λ x. x ≡ join (λ e ls. roll-Expr (Expr-F.Chain e ls)) v w) → IfOk r (λ x. Follows (expr_in known kind e) s x u)
 chain_follows known kind e a a' links links' r v w s t u is same sames first second made =
@@ -49,7 +49,7 @@ matches_is : (known : Known) (kind : RouteKind) (a : RawExpr) (word : Word) →
 matches_is known kind a word =
     ap (expr_in known kind) (sym (rolls-Matches a word)) ∙ fold-roll-RawExpr (Checked Expr) (expr_step known kind) (RawExpr-F.Matches a word)
 
-pub matches_follows : (known : Known) (kind : RouteKind) (e a a' : RawExpr) (word : Word) (source : List ℕ) (r : Result (Option Expr) AllocError) (v : Option Expr) (w : Option ℕ) (s t u : State) →
+pub matches_follows : (known : Known) (kind : RouteKind) (e a a' : RawExpr) (word : Word) (source : List ℕ) (r : Result (Option Expr) AllocError) (v : Option Expr) (w : Option ℕ) (s t u : CheckState) →
     e ≡ Matches a word → a' ≡ a → source ≡ word.text → Follows (expr_in known kind a') s v t → Follows (pattern_number word.at source) t w u →
     IfOk r (λ x. x ≡ join (λ e p. roll-Expr (Expr-F.Matches e p)) v w) → IfOk r (λ x. Follows (expr_in known kind e) s x u)
 matches_follows known kind e a a' word source r v w s t u is same text first second made =

@@ -1,5 +1,5 @@
 -- An expression or a statement that is read without a refusal is there.
-use Rattle.std.proofs.Common.{◌≡◌, ℕ, ◌+◌, nat_le, if◌then◌else◌, List, [], ◌∷◌, map, Option, Some, None, refl, sym, subst}
+use Rattle.std.proofs.Common.{◌≡◌, ◌+◌, nat_le, if◌then◌else◌, List, [], ◌∷◌, map, Option, Some, None, refl, sym, subst}
 use Rattle.pv_values.specs.declared.value.Val.{Val}
 use Rattle.pv_values.specs.declared.operator.BinOp.{BinOp}
 use Rattle.pv_values.specs.declared.refusal.Place.{Place}
@@ -26,10 +26,12 @@ use Rattle.cfg_tree.specs.declared.script.Stmt.TheViews.{roll-Stmt}
 use Rattle.cfg_tree.specs.Names.{Known, layer_of, part_of}
 use Rattle.cfg_tree.specs.Functions.{function_call, block_number, pattern_number}
 use Rattle.cfg_tree.specs.Checks.{call_in, myself, expr_step, expr_in, target_in, found_as, found, target_of, numbered, flat, all_in, maybe_expr, stmt_step, stmt_in, body_in}
-use Rattle.cfg_tree.specs.Refusals.{Refusal, Seen, Checked, accepted, one, each}
+use Rattle.cfg_tree.specs.Refusals.{refusal, Refusal, Seen, Checked, accepted, one, each}
 use Rattle.cfg_calls.proofs.Valued.{Stands, Valued, AllValued, some_left, none_is_some, both_empty, accepted_valued, one_valued, both_valued, three_valued, each_valued, map_valued, unless_valued}
 use Rattle.cfg_calls.proofs.ValuedNames.{layer_of_valued, part_of_valued}
 use Rattle.cfg_calls.proofs.ValuedFunctions.{function_call_valued, block_number_valued, pattern_number_valued}
+use Rattle.cfg_tree.specs.declared.refusal_kind.RefusalKind.{RefusalKind}
+use Rattle.cfg_tree.specs.declared.refusal_kind.RefusalKind.TheVariants.{NotWritable, TooLarge}
 
 -- ---- expressions
 
@@ -79,11 +81,11 @@ expr_valued known kind = ind-RawExpr (ExprValued known kind) (λ x y is. subst (
 
 -- ---- statements
 
-found_as_stands : {B : Type 0} (refusal_kind : ℕ) (at : Place) (rs : List Refusal) (s : Seen) (o : Option B) → Stands (found_as refusal_kind at rs s o)
-found_as_stands k at rs s None = record { gives = λ e. absurd (some_left _ _ (both_empty rs (record { kind = k; at = at } ∷ []) e).1) }
+found_as_stands : {B : Type 0} (refusal_kind : RefusalKind) (at : Place) (rs : List Refusal) (s : Seen) (o : Option B) → Stands (found_as refusal_kind at rs s o)
+found_as_stands k at rs s None = record { gives = λ e. absurd (some_left _ _ (both_empty rs (refusal k at ∷ []) e).1) }
 found_as_stands k at rs s (Some b) = record { gives = λ e. (b, refl) }
 
-found_stands : {A B : Type 0} (refusal_kind : ℕ) (at : Place) (f : A → Option B) (rs : List Refusal) (s : Seen) (o : Option A) → (rs ≡ [] → (a : A) × (o ≡ Some a)) →
+found_stands : {A B : Type 0} (refusal_kind : RefusalKind) (at : Place) (f : A → Option B) (rs : List Refusal) (s : Seen) (o : Option A) → (rs ≡ [] → (a : A) × (o ≡ Some a)) →
     Stands (found refusal_kind at f rs s o)
 found_stands k at f rs s None there = record { gives = λ e. absurd (none_is_some _ (there e).1) }
 found_stands k at f rs s (Some a) there = found_as_stands k at rs s (f a)
@@ -92,13 +94,13 @@ target_valued : (known : Known) (kind : RouteKind) (v : RawVariable) → Valued 
 target_valued known kind v = record {
   after = λ s.
       let read = layer_of known v.at v.variable s in
-      found_stands 10 v.at (target_in kind) read.refusals read.seen read.value ((layer_of_valued known v.at v.variable).after s).gives;
+      found_stands NotWritable v.at (target_in kind) read.refusals read.seen read.value ((layer_of_valued known v.at v.variable).after s).gives;
 }
 
 numbered_valued : (at : Place) (m : Checked (List Stmt)) → Valued m → Valued (numbered at m)
 numbered_valued at m vm = record {
   after = λ s.
-      (unless_valued (if nat_le 50000 s.statements then Some (record { kind = 13; at = at }) else None) m vm).after
+      (unless_valued (if nat_le 50000 s.statements then Some (refusal TooLarge at) else None) m vm).after
       (record s { statements = s.statements + 1 });
 }
 

@@ -12,15 +12,15 @@ use Rattle.cfg_tree.specs.declared.script.Stmt.TheViews.{roll-Stmt}
 use Rattle.cfg_tree.specs.Names.{Known}
 use Rattle.cfg_tree.specs.Refusals.{Checked, join, one, three, each}
 use Rattle.cfg_tree.specs.Checks.{expr_in, stmt_in, all_in, numbered}
-use Rattle.cfg_calls.specs.Following.{State, Follows, Counts, within_limit}
+use Rattle.cfg_calls.specs.Following.{CheckState, Follows, Counts, within_limit}
 
 -- a statement was counted, then its expression was checked, and then a part of it: both are read, if it is within the limit
-pub record Begins {X : Type 0} (known : Known) (kind : RouteKind) (at : Place) (e : RawExpr) (part : Checked X) (old : State) (read : Option (Expr × X)) (new : State) : Type 0 where
+pub record Begins {X : Type 0} (known : Known) (kind : RouteKind) (at : Place) (e : RawExpr) (part : Checked X) (old : CheckState) (read : Option (Expr × X)) (new : CheckState) : Type 0 where
   pub within : Bool
   pub value : Option Expr
   pub second : Option X
-  pub counted : State
-  pub tested : State
+  pub counted : CheckState
+  pub tested : CheckState
   pub counts : Counts at old within counted
   pub tests : Follows (expr_in known kind e) counted value tested
   pub follows : Follows part tested second new

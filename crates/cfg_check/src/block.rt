@@ -6,9 +6,9 @@ ghost use Rattle.cfg_calls.specs.Following.{Follows};
 ghost use Rattle.cfg_calls.specs.Heads.{shown};
 
 use crate::stmt;
-use cfg_calls::{Blocks, Checker, Head, Known, with_item};
-use cfg_settings::{Kind, Refusal};
-use cfg_tree::{RawBlock, RawItem, Stmt};
+use cfg_calls::{BlockHead, BlockIndex, Checker, Known, with_item};
+use cfg_settings::Refusal;
+use cfg_tree::{RawBlock, RawItem, RefusalKind, Stmt};
 use pv_values::Place;
 use sqlite_items::Items;
 use std::alloc::{AllocError as NoMemory, Global};
@@ -26,10 +26,10 @@ fn name_place(block: &RawBlock) -> Place
     }
 }
 
-/// What is refused of a block behind others: that it is a second one of its kind and name, and that it is one too many.
+/// What is refused of a block after others: that it is a second one of its kind and name, and that it is one too many.
 fn refuse_block(
-    earlier: &Blocks,
-    head: &Head,
+    earlier: &BlockIndex,
+    head: &BlockHead,
     block: &RawBlock,
     refusals: &mut Items<Refusal>,
 ) -> Result<(), NoMemory>
@@ -37,10 +37,10 @@ fn refuse_block(
     ensures { OnOk result (refusals.new ≡ refusals.old ++ (twice earlier.now block.now ++ too_many (length earlier.now) block.now)) }
 {
     if earlier.has(head) {
-        refusals.push(Refusal::new(Kind::RouteTwice, name_place(block)))?;
+        refusals.push(Refusal::new(RefusalKind::RouteTwice, name_place(block)))?;
     }
     if earlier.len() >= BLOCKS {
-        refusals.push(Refusal::new(Kind::TooLarge, block.at))?;
+        refusals.push(Refusal::new(RefusalKind::TooLarge, block.at))?;
     }
     Ok(())
 }
@@ -50,14 +50,14 @@ pub fn blocks_in(
     alloc: Global,
     items: &[RawItem],
     refusals: &mut Items<Refusal>,
-) -> Result<Blocks, NoMemory>
+) -> Result<BlockIndex, NoMemory>
     ensures names { IfOk result (λ names. names ≡ map block_name (blocks_of items.now)) }
     ensures refused { OnOk result (refusals.new ≡ refusals.old ++ block_refusals [] (blocks_of items.now)) }
 {
-    let mut blocks = Blocks::new(alloc);
+    let mut blocks = BlockIndex::new(alloc);
     for item in items {
         if let RawItem::Block(block) = item {
-            let head = Head::of(alloc, block)?;
+            let head = BlockHead::of(alloc, block)?;
             refuse_block(&blocks, &head, block, refusals)?;
             blocks = blocks.with(alloc, head)?;
         }

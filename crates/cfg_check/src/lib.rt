@@ -22,9 +22,17 @@ use pv_values::ScriptFault;
 use std::alloc::Global;
 
 /// The script that a tree stands for, or its first refusal: the one that begins first, and of those that begin at one
-/// byte the one of the least kind, 4 to 15.
+/// byte the one of the least kind, `UnknownRoute` to `UnknownModule`.
 ///
-/// Every number in a script that is given names something that is there. A script is given exactly where no check refuses; else the refusal is given, or memory is wanting.
+/// Every number in a script that is given names something that is there. A script is given exactly where no check
+/// refuses; else the refusal is given, or it is out of memory.
+///
+/// ```
+/// let text = b"request_route { route(NOWHERE); }";
+/// let tokens = lex(alloc, text)?;
+/// let tree = parse(alloc, text, &tokens)?;
+/// check(alloc, tree); // refused: UnknownRoute, from 22 to 29
+/// ```
 pub fn check(alloc: Global, raw: RawScript) -> Result<ClosedScript, ScriptFault>
     ensures accepted { IfOk result (IsAccepted raw) }
     ensures refused { IfErr result (IsRefusalOf raw) }

@@ -10,9 +10,9 @@ ghost use Rattle.cfg_check.specs.Reading.{IsRead, IsJudged};
 
 use crate::block::{blocks_in, bodies};
 use cfg_calls::{Checker, Known, number};
-use cfg_settings::{Kind, Refusal, Settings, settings_in};
+use cfg_settings::{Refusal, Settings, settings_in};
 use cfg_tree::laws::an_accepted_script_is_closed;
-use cfg_tree::{ClosedScript, RawScript, RouteKind, Script, Stmt};
+use cfg_tree::{ClosedScript, RawScript, RefusalKind, RouteKind, Script, Stmt};
 use pv_values::{BlockKind, PatternText, Patterns, Place};
 use sqlite_items::Items;
 use std::alloc::{AllocError as NoMemory, Global};
@@ -68,7 +68,7 @@ fn refuse_without_request(
     ensures refusals { OnOk result (checker.new.refusals ≡ checker.old.refusals ++ no_request raw.now request) }
 {
     if request.is_none() {
-        checker.note(Kind::NoRequestRoute, end_of(raw))?;
+        checker.note(RefusalKind::NoRequestRoute, end_of(raw))?;
     }
     Ok(())
 }

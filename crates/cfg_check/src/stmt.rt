@@ -137,7 +137,7 @@ fn called(
     alone(checker.alloc(), within, call_alone(call))
 }
 
-/// The value behind `return`, where there is one.
+/// The value after `return`, where there is one.
 fn maybe_expr(
     checker: &mut Checker,
     known: &Known,
@@ -203,7 +203,7 @@ fn empty(checker: &mut Checker, at: Place) -> Result<Option<Items<Stmt>>, NoMemo
     Ok(where_within(within, Some(nothing)))
 }
 
-/// What an expression and a statement behind it begin: the one that they stand in is counted first.
+/// What an expression and a statement after it begin: the one that they stand in is counted first.
 #[cycle(stmts)]
 fn with_stmt(
     checker: &mut Checker,
@@ -221,7 +221,7 @@ fn with_stmt(
     Ok(where_within(within, pair(value, stmts)))
 }
 
-/// What an expression and the cases behind it begin: the statement that they stand in is counted first.
+/// What an expression and the cases after it begin: the statement that they stand in is counted first.
 #[cycle(stmts)]
 fn with_cases(
     checker: &mut Checker,

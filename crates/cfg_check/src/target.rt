@@ -8,8 +8,7 @@ ghost use Rattle.cfg_tree.specs.Meaning.{item_of};
 ghost use Rattle.cfg_calls.specs.Following.{Follows};
 
 use cfg_calls::{Checker, Known};
-use cfg_settings::Kind;
-use cfg_tree::{Part, RawVariable, RouteKind, TableUse, Target};
+use cfg_tree::{Part, RawVariable, RefusalKind, RouteKind, TableUse, Target};
 use pv_values::{BlockKind, Key, PvUse, Text};
 use std::alloc::{AllocError as NoMemory, Global};
 
@@ -87,6 +86,6 @@ pub fn target_of(
     };
     match target(checker.alloc(), kind, part) {
         Some(target) => Ok(Some(target)),
-        None => checker.refuse(Kind::NotWritable, v.at),
+        None => checker.refuse(RefusalKind::NotWritable, v.at),
     }
 }

@@ -25,11 +25,11 @@ use Rattle.cfg_tree.specs.declared.script.Stmt.TheOpen.{Stmt-F}
 use Rattle.cfg_tree.specs.declared.script.Stmt.TheViews.{roll-Stmt}
 use Rattle.cfg_tree.specs.declared.script.Stmt.TheFolds.{fold-roll-Stmt, ind-Stmt, map-Stmt}
 use Rattle.cfg_tree.specs.Meaning.{Wanted, AsValue, AsTruth, item_of}
-use Rattle.cfg_tree.specs.Closed.{Names, all_true, part_step, closed_part, closed_parts, expr_step, closed_expr, closed_target, closed_result, stmt_step, closed_stmt, closed_block, closed_use, closed_ask}
+use Rattle.cfg_tree.specs.Closed.{Names, all_closed, closed_part_step, closed_part, closed_parts, closed_expr_step, closed_expr, closed_target, closed_result, closed_stmt_step, closed_stmt, closed_block, closed_use, closed_ask}
 use Rattle.cfg_code.specs.declared.instr.Instr.{Instr}
 use Rattle.cfg_code.specs.declared.instr.Instr.TheVariants.{Push, Load, LoadCode, LoadSuccess, Store, Read, ReadItem, Write, WriteItem, Transform, Concat, PushArgument, CallFunction, ExitOnZero, CallBlock, Binary, Negate, Not, ToBool, Match, JumpIfFalseOrPop, JumpIfTrueOrPop, Pop, CountStatement, JumpIfFalse, Jump, Case, BeginLoop, BeginRound, LoopBack, EndLoop, Break, Return, Exit, Drop, EndBlock}
 use Rattle.cfg_code.specs.Flat.{FlatScript}
-use Rattle.cfg_code.specs.Code.{Text, joined, concat_text, concats, expansion_text, part_text, part_code, expansion_code, wanted_text, called_text, argument_text, arguments_code, link_text, links_text, and_text, ands_text, or_text, ors_text, expr_text, expr_code, set_text, if_text, while_text, case_text, cases_text, switch_text, return_text, stmt_text, stmt_code, list_code, block_code}
+use Rattle.cfg_code.specs.Code.{Text, texts_joined, concat_text, concats, expansion_text, part_text, part_code, expansion_code, wanted_text, called_text, argument_text, arguments_code, link_text, links_text, and_text, ands_text, or_text, ors_text, expr_text, expr_code, set_text, if_text, while_text, case_text, cases_text, switch_text, return_text, stmt_text, stmt_code, list_code, text_of_block}
 use Rattle.cfg_code.specs.Machine.{Configuration, item_read, host_written, item_written, asked_by, asked_of}
 use Rattle.cfg_code.specs.Closed.{closed_instr, closed_code, names_of, IsClosedCode}
 
@@ -52,7 +52,7 @@ module _ (names : Names) where
       let parts = and_parts (closed_instr names i) (closed_code names a) ca.is in
       record { is = and_from (closed_instr names i) (closed_code names (a ++ b)) parts.0 (seq a b (record { is = parts.1 }) cb).is }
 
-  -- an instruction without a number, and a text behind it
+  -- an instruction without a number, and a text after it
   behind : (i : Instr) (t : Text) → closed_instr names i ≡ true → Closed t → Closed (i ∷ t)
   behind i t ci ct = record { is = and_from (closed_instr names i) (closed_code names t) ci ct.is }
 
@@ -62,9 +62,9 @@ module _ (names : Names) where
   ended : (t : Text) (i : Instr) → Closed t → closed_instr names i ≡ true → Closed (t ++ i ∷ [])
   ended t i ct ci = seq t (i ∷ []) ct (alone i ci)
 
-  joined_closed : (ts : List Text) → Every Closed ts → Closed (joined ts)
+  joined_closed : (ts : List Text) → Every Closed ts → Closed (texts_joined ts)
   joined_closed [] every = record { is = refl }
-  joined_closed (t ∷ ts) every = seq t (joined ts) every.0 (joined_closed ts every.1)
+  joined_closed (t ∷ ts) every = seq t (texts_joined ts) every.0 (joined_closed ts every.1)
 
   -- ---- expanded texts
 
@@ -79,13 +79,13 @@ module _ (names : Names) where
   abbrev ProvedPart : Type 0
   ProvedPart = (x : Part) × PartCloses x
 
-  key_closed : (ys : List ProvedPart) → all_true (map (closed_part names) (map (λ (e : ProvedPart). e.0) ys)) ≡ true → Every Closed (map part_code (map (λ (e : ProvedPart). e.0) ys))
+  key_closed : (ys : List ProvedPart) → all_closed (map (closed_part names) (map (λ (e : ProvedPart). e.0) ys)) ≡ true → Every Closed (map part_code (map (λ (e : ProvedPart). e.0) ys))
   key_closed [] e = tt
   key_closed (y ∷ ys) e =
-      let parts = and_parts (closed_part names y.0) (all_true (map (closed_part names) (map (λ (e : ProvedPart). e.0) ys))) e in
+      let parts = and_parts (closed_part names y.0) (all_closed (map (closed_part names) (map (λ (e : ProvedPart). e.0) ys))) e in
       (y.1 parts.0, key_closed ys parts.1)
 
-  part_layer : (y : Part-F ProvedPart) → part_step names (map-Part _ _ (closed_part names) (map-Part _ _ (λ e. e.0) y)) ≡ true → Closed (part_text (map-Part _ _ part_code (map-Part _ _ (λ e. e.0) y)))
+  part_layer : (y : Part-F ProvedPart) → closed_part_step names (map-Part _ _ (closed_part names) (map-Part _ _ (λ e. e.0) y)) ≡ true → Closed (part_text (map-Part _ _ part_code (map-Part _ _ (λ e. e.0) y)))
   part_layer (Part-F.Text t) e = record { is = refl }
   part_layer (Part-F.Var x) e = alone (Load x) e
   part_layer Part-F.Code e = record { is = refl }
@@ -99,7 +99,7 @@ module _ (names : Names) where
   part_closes : (x : Part) → PartCloses x
   part_closes = ind-Part PartCloses (λ x y is. subst (λ x. PartCloses (roll-Part x)) is (λ e.
       let x = map-Part ProvedPart Part (λ e. e.0) y in
-      subst (λ c. Closed c) (sym (fold-roll-Part Text part_text x)) (part_layer y (sym (fold-roll-Part Bool (part_step names) x) ∙ e))))
+      subst (λ c. Closed c) (sym (fold-roll-Part Text part_text x)) (part_layer y (sym (fold-roll-Part Bool (closed_part_step names) x) ∙ e))))
 
   parts_close : (xs : List Part) → closed_parts names xs ≡ true → Every Closed (map part_code xs)
   parts_close [] e = tt
@@ -132,10 +132,10 @@ module _ (names : Names) where
   abbrev Operand : (Wanted → Text) → Type 0
   Operand t = (w : Wanted) → Closed (t w)
 
-  members_closed : (ys : List Proved) → all_true (map (closed_expr names) (map (λ (e : Proved). e.0) ys)) ≡ true → Every Operand (map expr_code (map (λ (e : Proved). e.0) ys))
+  members_closed : (ys : List Proved) → all_closed (map (closed_expr names) (map (λ (e : Proved). e.0) ys)) ≡ true → Every Operand (map expr_code (map (λ (e : Proved). e.0) ys))
   members_closed [] e = tt
   members_closed (y ∷ ys) e =
-      let parts = and_parts (closed_expr names y.0) (all_true (map (closed_expr names) (map (λ (e : Proved). e.0) ys))) e in
+      let parts = and_parts (closed_expr names y.0) (all_closed (map (closed_expr names) (map (λ (e : Proved). e.0) ys))) e in
       (y.1 parts.0, members_closed ys parts.1)
 
   ands_closed : (ts : List (Wanted → Text)) → Every Operand ts → Closed (ands_text ts)
@@ -161,7 +161,7 @@ module _ (names : Names) where
       let parts = and_parts (closed_expr names y.1.0) (list_all (λ (l : BinOp × Bool). l.1) (map (λ (l : BinOp × Expr). (l.0, closed_expr names l.1)) (link_exprs ys))) e in
       seq (link_text y.0 (expr_code y.1.0 AsValue)) _ (ended (expr_code y.1.0 AsValue) (Binary y.0) (y.1.1 parts.0 AsValue) refl) (links_closed ys parts.1)
 
-  expr_layer : (y : Expr-F Proved) → expr_step names (map-Expr _ _ (closed_expr names) (map-Expr _ _ (λ e. e.0) y)) ≡ true → Operand (expr_text (map-Expr _ _ expr_code (map-Expr _ _ (λ e. e.0) y)))
+  expr_layer : (y : Expr-F Proved) → closed_expr_step names (map-Expr _ _ (closed_expr names) (map-Expr _ _ (λ e. e.0) y)) ≡ true → Operand (expr_text (map-Expr _ _ expr_code (map-Expr _ _ (λ e. e.0) y)))
   expr_layer (Expr-F.Int n) e = λ w. record { is = refl }
   expr_layer (Expr-F.Text t) e = λ w. record { is = refl }
   expr_layer (Expr-F.Read x) e = λ w. part_closes x e
@@ -187,7 +187,7 @@ module _ (names : Names) where
   expr_closes : (e : Expr) → ExprCloses e
   expr_closes = ind-Expr ExprCloses (λ x y is. subst (λ x. ExprCloses (roll-Expr x)) is (λ e.
       let x = map-Expr Proved Expr (λ e. e.0) y in
-      subst (λ c. Operand c) (sym (fold-roll-Expr (Wanted → Text) expr_text x)) (expr_layer y (sym (fold-roll-Expr Bool (expr_step names) x) ∙ e))))
+      subst (λ c. Operand c) (sym (fold-roll-Expr (Wanted → Text) expr_text x)) (expr_layer y (sym (fold-roll-Expr Bool (closed_expr_step names) x) ∙ e))))
 
   -- ---- statements
 
@@ -208,7 +208,7 @@ module _ (names : Names) where
   cases_closed : (cs : List (Val × List Text)) → Every (λ (c : Val × List Text). Every Closed c.1) cs → Closed (cases_text cs)
   cases_closed [] every = record { is = refl }
   cases_closed (c ∷ cs) every =
-      let b = joined c.1 in
+      let b = texts_joined c.1 in
       seq (case_text c.0 b) (cases_text cs) (behind (Case c.0 (length b + 1)) _ refl (ended b (Jump 1) (joined_closed c.1 every.0) refl)) (cases_closed cs every.1)
 
   switch_closed : (c cs a : Text) → Closed c → Closed cs → Closed a → Closed (switch_text c cs a)
@@ -228,42 +228,42 @@ module _ (names : Names) where
   abbrev stmts_of : List ProvedStmt → List Stmt
   stmts_of ys = map (λ (e : ProvedStmt). e.0) ys
 
-  list_closed : (ys : List ProvedStmt) → all_true (map (closed_stmt names) (stmts_of ys)) ≡ true → Every Closed (map stmt_code (stmts_of ys))
+  list_closed : (ys : List ProvedStmt) → all_closed (map (closed_stmt names) (stmts_of ys)) ≡ true → Every Closed (map stmt_code (stmts_of ys))
   list_closed [] e = tt
-  list_closed (y ∷ ys) e = let parts = and_parts (closed_stmt names y.0) (all_true (map (closed_stmt names) (stmts_of ys))) e in (y.1 parts.0, list_closed ys parts.1)
+  list_closed (y ∷ ys) e = let parts = and_parts (closed_stmt names y.0) (all_closed (map (closed_stmt names) (stmts_of ys))) e in (y.1 parts.0, list_closed ys parts.1)
 
   abbrev cases_of : List (Val × List ProvedStmt) → List (Val × List Stmt)
   cases_of ys = map (λ (c : Val × List ProvedStmt). (c.0, stmts_of c.1)) ys
 
   abbrev tests_of : List (Val × List Stmt) → Bool
-  tests_of cs = list_all (λ (c : Val × List Bool). all_true c.1) (map (λ (c : Val × List Stmt). (c.0, map (closed_stmt names) c.1)) cs)
+  tests_of cs = list_all (λ (c : Val × List Bool). all_closed c.1) (map (λ (c : Val × List Stmt). (c.0, map (closed_stmt names) c.1)) cs)
 
   case_list_closed : (ys : List (Val × List ProvedStmt)) → tests_of (cases_of ys) ≡ true →
       Every (λ (c : Val × List Text). Every Closed c.1) (map (λ (c : Val × List Stmt). (c.0, map stmt_code c.1)) (cases_of ys))
   case_list_closed [] e = tt
   case_list_closed (y ∷ ys) e =
-      let parts = and_parts (all_true (map (closed_stmt names) (stmts_of y.1))) (tests_of (cases_of ys)) e in
+      let parts = and_parts (all_closed (map (closed_stmt names) (stmts_of y.1))) (tests_of (cases_of ys)) e in
       (list_closed y.1 parts.0, case_list_closed ys parts.1)
 
   abbrev texts_of : List ProvedStmt → List Text
   texts_of ys = map stmt_code (stmts_of ys)
 
-  stmt_layer : (y : Stmt-F ProvedStmt) → stmt_step names (map-Stmt _ _ (closed_stmt names) (map-Stmt _ _ (λ e. e.0) y)) ≡ true → Closed (stmt_text (map-Stmt _ _ stmt_code (map-Stmt _ _ (λ e. e.0) y)))
+  stmt_layer : (y : Stmt-F ProvedStmt) → closed_stmt_step names (map-Stmt _ _ (closed_stmt names) (map-Stmt _ _ (λ e. e.0) y)) ≡ true → Closed (stmt_text (map-Stmt _ _ stmt_code (map-Stmt _ _ (λ e. e.0) y)))
   stmt_layer (Stmt-F.Set t x) e =
       let parts = and_parts (closed_target names t) (closed_expr names x) e in
       set_closed t (expr_code x AsValue) parts.0 (expr_closes x parts.1 AsValue)
   stmt_layer (Stmt-F.Do x) e = ended (expr_code x AsValue) Pop (expr_closes x e AsValue) refl
   stmt_layer (Stmt-F.If x a b) e =
-      let parts = and_parts _ (all_true (map (closed_stmt names) (stmts_of b))) e in
-      let front = and_parts (closed_expr names x) (all_true (map (closed_stmt names) (stmts_of a))) parts.0 in
-      if_closed (expr_code x AsTruth) (joined (texts_of a)) (joined (texts_of b)) (expr_closes x front.0 AsTruth) (joined_closed (texts_of a) (list_closed a front.1)) (joined_closed (texts_of b) (list_closed b parts.1))
+      let parts = and_parts _ (all_closed (map (closed_stmt names) (stmts_of b))) e in
+      let front = and_parts (closed_expr names x) (all_closed (map (closed_stmt names) (stmts_of a))) parts.0 in
+      if_closed (expr_code x AsTruth) (texts_joined (texts_of a)) (texts_joined (texts_of b)) (expr_closes x front.0 AsTruth) (joined_closed (texts_of a) (list_closed a front.1)) (joined_closed (texts_of b) (list_closed b parts.1))
   stmt_layer (Stmt-F.While x body) e =
-      let parts = and_parts (closed_expr names x) (all_true (map (closed_stmt names) (stmts_of body))) e in
-      while_closed (expr_code x AsTruth) (joined (texts_of body)) (expr_closes x parts.0 AsTruth) (joined_closed (texts_of body) (list_closed body parts.1))
+      let parts = and_parts (closed_expr names x) (all_closed (map (closed_stmt names) (stmts_of body))) e in
+      while_closed (expr_code x AsTruth) (texts_joined (texts_of body)) (expr_closes x parts.0 AsTruth) (joined_closed (texts_of body) (list_closed body parts.1))
   stmt_layer (Stmt-F.Switch x cs last) e =
-      let parts = and_parts _ (all_true (map (closed_stmt names) (stmts_of last))) e in
+      let parts = and_parts _ (all_closed (map (closed_stmt names) (stmts_of last))) e in
       let front = and_parts (closed_expr names x) (tests_of (cases_of cs)) parts.0 in
-      switch_closed (expr_code x AsValue) _ (joined (texts_of last)) (expr_closes x front.0 AsValue) (cases_closed _ (case_list_closed cs front.1)) (joined_closed (texts_of last) (list_closed last parts.1))
+      switch_closed (expr_code x AsValue) _ (texts_joined (texts_of last)) (expr_closes x front.0 AsValue) (cases_closed _ (case_list_closed cs front.1)) (joined_closed (texts_of last) (list_closed last parts.1))
   stmt_layer Stmt-F.Break e = record { is = refl }
   stmt_layer (Stmt-F.Return o) e = return_closed o e
   stmt_layer Stmt-F.Exit e = record { is = refl }
@@ -272,13 +272,13 @@ module _ (names : Names) where
   stmt_closes : (s : Stmt) → StmtCloses s
   stmt_closes = ind-Stmt StmtCloses (λ x y is. subst (λ x. StmtCloses (roll-Stmt x)) is (λ e.
       let x = map-Stmt ProvedStmt Stmt (λ e. e.0) y in
-      subst (λ c. Closed c) (sym (fold-roll-Stmt Text stmt_text x)) (stmt_layer y (sym (fold-roll-Stmt Bool (stmt_step names) x) ∙ e))))
+      subst (λ c. Closed c) (sym (fold-roll-Stmt Text stmt_text x)) (stmt_layer y (sym (fold-roll-Stmt Bool (closed_stmt_step names) x) ∙ e))))
 
   stmts_close : (block : List Stmt) → closed_block names block ≡ true → Every Closed (map stmt_code block)
   stmts_close [] e = tt
   stmts_close (x ∷ xs) e = let parts = and_parts (closed_stmt names x) (closed_block names xs) e in (stmt_closes x parts.0, stmts_close xs parts.1)
 
-  pub block_closes : (block : List Stmt) → closed_block names block ≡ true → closed_code names (block_code block) ≡ true
+  pub block_closes : (block : List Stmt) → closed_block names block ≡ true → closed_code names (text_of_block block) ≡ true
   block_closes block e = (ended (list_code block) EndBlock (joined_closed (map stmt_code block) (stmts_close block e)) refl).is
 
   -- ---- asks

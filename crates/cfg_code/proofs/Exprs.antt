@@ -12,7 +12,7 @@ use Rattle.cfg_tree.specs.declared.script.Expr.TheOpen.{Expr-F}
 use Rattle.cfg_tree.specs.declared.script.Expr.TheViews.{roll-Expr}
 use Rattle.cfg_tree.specs.declared.script.Expr.TheFolds.{fold-roll-Expr, ind-Expr, map-Expr}
 use Rattle.cfg_tree.specs.declared.script.Script.{Script}
-use Rattle.cfg_tree.specs.Meaning.{RunTalk, State, WithValue, WithCode, Valued, Wanted, AsValue, AsTruth, Meant, Routes, put_code, settle, coded, called, linked, all_true, any_true, matched, expr_step, expr_of}
+use Rattle.cfg_tree.specs.Meaning.{RunTalk, State, WithValue, WithCode, Valued, Wanted, AsValue, AsTruth, Meant, Routes, put_code, settle, coded, called, linked, all_true, any_true, matched, expr_meaning_step, expr_of}
 use Rattle.cfg_code.specs.declared.instr.Instr.TheVariants.{Push, LoadCode, LoadSuccess, CallFunction, ExitOnZero, CallBlock, Binary, Negate, Not, ToBool, Match, JumpIfFalseOrPop, JumpIfTrueOrPop}
 use Rattle.cfg_code.specs.Flat.{FlatScript}
 use Rattle.cfg_code.specs.declared.machine.Frame.{Frame}
@@ -233,7 +233,7 @@ module _ (loaded : FlatScript) (d : ℕ) where
     operands_right [] = tt
     operands_right (y ∷ ys) = ((refl, y.1.1), operands_right ys)
 
-    layer : RightRoute → (y : Expr-F ((e : Expr) × Fine e)) → RightMeant (expr_text (map-Expr _ _ expr_code (map-Expr _ _ (λ e. e.0) y))) (expr_step script route (map-Expr _ _ (expr_of script route) (map-Expr _ _ (λ e. e.0) y)))
+    layer : RightRoute → (y : Expr-F ((e : Expr) × Fine e)) → RightMeant (expr_text (map-Expr _ _ expr_code (map-Expr _ _ (λ e. e.0) y))) (expr_meaning_step script route (map-Expr _ _ (expr_of script route) (map-Expr _ _ (λ e. e.0) y)))
     layer r (Expr-F.Int n) = λ w p stack frames s next has k. by_act loaded (run_at p stack frames d s) (Push (val.Int n)) _ has.0 (k _ s)
     layer r (Expr-F.Text t) = λ w p stack frames s next has k. by_act loaded (run_at p stack frames d s) (Push (limited t)) _ has.0 (k _ s)
     layer r (Expr-F.Read x) = λ w. part_right loaded d x []
@@ -251,4 +251,4 @@ module _ (loaded : FlatScript) (d : ℕ) where
     expr_right r = ind-Expr Fine (λ x y is. subst (λ x. Fine (roll-Expr x)) is (
         let x = map-Expr ((e : Expr) × Fine e) Expr (λ e. e.0) y in
         subst (λ c. RightMeant c (expr_of script route (roll-Expr x))) (sym (fold-roll-Expr (Wanted → Text) expr_text x)) (
-        subst (λ m. RightMeant (expr_text (map-Expr _ _ expr_code x)) m) (sym (fold-roll-Expr Meant (expr_step script route) x)) (layer r y))))
+        subst (λ m. RightMeant (expr_text (map-Expr _ _ expr_code x)) m) (sym (fold-roll-Expr Meant (expr_meaning_step script route) x)) (layer r y))))

@@ -10,7 +10,7 @@ use Rattle.cfg_tree.specs.declared.script.Part.{Part}
 use Rattle.cfg_tree.specs.declared.script.Part.TheOpen.{Part-F}
 use Rattle.cfg_tree.specs.declared.script.Part.TheViews.{roll-Part}
 use Rattle.cfg_tree.specs.declared.script.Part.TheFolds.{fold-roll-Part, ind-Part, map-Part}
-use Rattle.cfg_tree.specs.Meaning.{State, WithText, WithValues, Valued, item_of, texts_behind, expanded, read_host, part_step, part_of, expansion_of, arguments_behind}
+use Rattle.cfg_tree.specs.Meaning.{State, WithText, WithValues, Valued, item_of, texts_behind, expanded, read_host, part_meaning_step, part_meaning, expansion_of, arguments_behind}
 use Rattle.cfg_code.specs.declared.instr.Instr.TheVariants.{Push, Load, LoadCode, Read, ReadItem, Transform, Concat, PushArgument}
 use Rattle.cfg_code.specs.Flat.{FlatScript}
 use Rattle.cfg_code.specs.declared.machine.Frame.{Frame}
@@ -19,7 +19,7 @@ use Rattle.cfg_code.specs.Code.{Text, concat_text, concats, expansion_text, part
 use Rattle.cfg_code.specs.Follows.{HasAt, Behaves}
 use Rattle.cfg_code.proofs.Places.{has_front, has_back, run_with, by_act, asked_behind, at_place, Each, Right, change_right}
 
--- what is put behind a text that may be above 8,192 bytes
+-- what is put after a text that may be above 8,192 bytes
 sum_of_limited : (front : List ℕ) (v : Val) → sum_of (limited front) v ≡ limited (front ++ text_of v)
 sum_of_limited front v = elim (cases_Bool (nat_le (length front) 8192)) [
   | inl t ↦ rw t refl
@@ -35,7 +35,7 @@ module _ (loaded : FlatScript) (d : ℕ) where
   abbrev pub RightPart : Text → Valued → Type 0
   RightPart text m = (args : List Val) → Right loaded d args text m
 
-  -- a text on the stack, or Null above 8,192 bytes, and parts that are put behind it
+  -- a text on the stack, or Null above 8,192 bytes, and parts that are put after it
   concats_right : (ts : List Text) (ms : List Valued) → Each RightPart ts ms → (args : List Val) (front : List ℕ) (p : ℕ) (stack : List Val) (frames : List Frame) (s : State) (next : WithText) →
       HasAt loaded.code.instrs p (concats ts) →
       ((t : List ℕ) (s : State) → Behaves loaded (run_with args (p + length (concats ts)) (limited t ∷ stack) frames d s) (next t s)) →
@@ -84,19 +84,19 @@ module _ (loaded : FlatScript) (d : ℕ) where
       ))
 
   abbrev Fine : Part → Type 0
-  Fine x = RightPart (part_code x) (part_of x)
+  Fine x = RightPart (part_code x) (part_meaning x)
 
   abbrev texts_of : List ((x : Part) × Fine x) → List Text
   texts_of ys = map part_code (map (λ (e : (x : Part) × Fine x). e.0) ys)
 
   abbrev values_of : List ((x : Part) × Fine x) → List Valued
-  values_of ys = map part_of (map (λ (e : (x : Part) × Fine x). e.0) ys)
+  values_of ys = map part_meaning (map (λ (e : (x : Part) × Fine x). e.0) ys)
 
   pairs_right : (ys : List ((x : Part) × Fine x)) → Each RightPart (texts_of ys) (values_of ys)
   pairs_right [] = tt
   pairs_right (y ∷ ys) = (y.1, pairs_right ys)
 
-  layer : (y : Part-F ((x : Part) × Fine x)) → RightPart (part_text (map-Part _ _ part_code (map-Part _ _ (λ e. e.0) y))) (part_step (map-Part _ _ part_of (map-Part _ _ (λ e. e.0) y)))
+  layer : (y : Part-F ((x : Part) × Fine x)) → RightPart (part_text (map-Part _ _ part_code (map-Part _ _ (λ e. e.0) y))) (part_meaning_step (map-Part _ _ part_meaning (map-Part _ _ (λ e. e.0) y)))
   layer (Part-F.Text t) = λ args p stack frames s next has k. by_act loaded (run_with args p stack frames d s) (Push (val.Text t)) _ has.0 (k _ s)
   layer (Part-F.Var x) = λ args p stack frames s next has k. by_act loaded (run_with args p stack frames d s) (Load x) _ has.0 (k _ s)
   layer Part-F.Code = λ args p stack frames s next has k. by_act loaded (run_with args p stack frames d s) LoadCode _ has.0 (k _ s)
@@ -104,22 +104,22 @@ module _ (loaded : FlatScript) (d : ℕ) where
       by_act loaded (run_with args p stack frames d s) (Read x) _ has.0
       (_, _, refl, asked_behind loaded (record (run_with args (p + 1) stack frames d s) { wait = wait.Value }) p (Read x) refl has.0, tt, λ answer. k (told_value answer) s)
   layer (Part-F.Item way t key) = item_right way t (expansion_text (texts_of key)) (expanded (values_of key)) (texts_right (texts_of key) (values_of key) (pairs_right key))
-  layer (Part-F.Transformed tr x) = λ args. change_right loaded d args (Transform tr) (transformed tr) (λ r. refl) (part_code x.0) (part_of x.0) (x.1 args)
+  layer (Part-F.Transformed tr x) = λ args. change_right loaded d args (Transform tr) (transformed tr) (λ r. refl) (part_code x.0) (part_meaning x.0) (x.1 args)
 
-  pub part_right : (x : Part) → RightPart (part_code x) (part_of x)
+  pub part_right : (x : Part) → RightPart (part_code x) (part_meaning x)
   part_right = ind-Part Fine (λ x y is. subst (λ x. Fine (roll-Part x)) is (
       let x = map-Part ((x : Part) × Fine x) Part (λ e. e.0) y in
-      subst (λ c. RightPart c (part_of (roll-Part x))) (sym (fold-roll-Part Text part_text x)) (
-      subst (λ m. RightPart (part_text (map-Part _ _ part_code x)) m) (sym (fold-roll-Part Valued part_step x)) (layer y))))
+      subst (λ c. RightPart c (part_meaning (roll-Part x))) (sym (fold-roll-Part Text part_text x)) (
+      subst (λ m. RightPart (part_text (map-Part _ _ part_code x)) m) (sym (fold-roll-Part Valued part_meaning_step x)) (layer y))))
 
-  parts_right : (xs : List Part) → Each RightPart (map part_code xs) (map part_of xs)
+  parts_right : (xs : List Part) → Each RightPart (map part_code xs) (map part_meaning xs)
   parts_right [] = tt
   parts_right (x ∷ xs) = (part_right x, parts_right xs)
 
   pub expansion_right : (xs : List Part) → RightPart (expansion_code xs) (expansion_of xs)
-  expansion_right xs = texts_right (map part_code xs) (map part_of xs) (parts_right xs)
+  expansion_right xs = texts_right (map part_code xs) (map part_meaning xs) (parts_right xs)
 
-  -- the arguments of a call, behind those before
+  -- the arguments of a call, after those before
   pub arguments_right : (xs : List (List Part)) (front : List Val) (p : ℕ) (stack : List Val) (frames : List Frame) (s : State) (next : WithValues) →
       HasAt loaded.code.instrs p (arguments_code xs) →
       ((vs : List Val) (s : State) → Behaves loaded (run_with vs (p + length (arguments_code xs)) stack frames d s) (next vs s)) →

@@ -74,7 +74,7 @@ module _ (loaded : FlatScript) where
   pub by_act : (r : Configuration) (i : Instr) (t : RunTalk) → slice_get loaded.code.instrs r.pc ≡ Some i → After (act loaded i (record r { pc = r.pc + 1 })) t → Behaves loaded r t
   by_act r i t has h = by_event r t (step_of loaded r).event refl (subst (λ o. After (fetched loaded o r) t) (sym has) h)
 
-  -- what is asked behind an instruction
+  -- what is asked after an instruction
   pub asked_behind : (r : Configuration) (p : ℕ) (i : Instr) → r.pc ≡ p + 1 → slice_get loaded.code.instrs p ≡ Some i → asked_of loaded r ≡ asked_by (Some i) r
   asked_behind r p i at has =
       let e : r.pc - 1 ≡ p = omega (arith, at) in

@@ -22,7 +22,7 @@ use Rattle.cfg_tree.specs.declared.script.Stmt.TheFolds.{fold-roll-Stmt, ind-Stm
 use Rattle.cfg_tree.specs.Meaning.{Wanted, AsValue, AsTruth}
 use Rattle.cfg_code.specs.declared.instr.Instr.{Instr}
 use Rattle.cfg_code.specs.declared.instr.Instr.TheVariants.{Push, Load, LoadCode, LoadSuccess, Store, Read, ReadItem, Write, WriteItem, Transform, Concat, PushArgument, CallFunction, ExitOnZero, CallBlock, Binary, Negate, Not, ToBool, Match, JumpIfFalseOrPop, JumpIfTrueOrPop, Pop, CountStatement, JumpIfFalse, Jump, BeginLoop, BeginRound, LoopBack, EndLoop, Return, Exit, Drop, EndBlock}
-use Rattle.cfg_code.specs.Code.{Text, joined, concat_text, concats, expansion_text, part_text, part_code, expansion_code, wanted_text, called_text, argument_text, arguments_code, link_text, links_text, and_text, ands_text, or_text, ors_text, expr_text, expr_code, set_text, if_text, while_text, case_text, cases_text, switch_text, return_text, stmt_text, stmt_code, list_code, block_code}
+use Rattle.cfg_code.specs.Code.{Text, texts_joined, concat_text, concats, expansion_text, part_text, part_code, expansion_code, wanted_text, called_text, argument_text, arguments_code, link_text, links_text, and_text, ands_text, or_text, ors_text, expr_text, expr_code, set_text, if_text, while_text, case_text, cases_text, switch_text, return_text, stmt_text, stmt_code, list_code, text_of_block}
 use Rattle.cfg_code.specs.Sound.{Shape, nothing, Leads, Moves, IsFine, AreFine, Shaped}
 
 abbrev at : ℕ → ℕ → Shape
@@ -32,7 +32,7 @@ abbrev Every : {A : Type 0} → (A → Type 0) → List A → Type 0
 Every P [] = Unit {0}
 Every P (a ∷ more) = P a × Every P more
 
--- from the one shape to the other, whatever comes behind
+-- from the one shape to the other, whatever comes after
 abbrev Fits : Text → Shape → Shape → Type 0
 Fits t s k = (behind : List Shape) → Leads behind 0 k → Shaped t s behind
 
@@ -41,7 +41,7 @@ fine_append [] b all mid behind e h = subst (λ x. AreFine b x behind) (sym e) h
 fine_append (i ∷ a) b [] mid behind e h = absurd e
 fine_append (i ∷ a) b (s ∷ all) mid behind e h = (e.0, fine_append a b all mid behind e.1 h)
 
--- behind a text
+-- after a text
 pub passed : (t : Text) (all behind : List Shape) (n k : ℕ) → AreFine t all behind → k ≡ length t + n → slice_get all k ≡ slice_get behind n
 passed [] all behind n k e is = let same : k ≡ n = omega (arith, is) in ap (λ x. slice_get x k) e ∙ ap (λ i. slice_get behind i) same
 passed (i ∷ t) [] behind n k e is = absurd e
@@ -211,9 +211,9 @@ expr_fits = ind-Expr ExprFits (λ x y is. subst (λ x. ExprFits (roll-Expr x)) i
 
 -- ---- statements
 
-joined_fits : (ts : List Text) → Every Keeps ts → Keeps (joined ts)
+joined_fits : (ts : List Text) → Every Keeps ts → Keeps (texts_joined ts)
 joined_fits [] every l = λ behind g. (behind, refl, g)
-joined_fits (t ∷ ts) every l = seq t (joined ts) (at 0 l) (at 0 l) (at 0 l) (every.0 l) (joined_fits ts every.1 l)
+joined_fits (t ∷ ts) every l = seq t (texts_joined ts) (at 0 l) (at 0 l) (at 0 l) (every.0 l) (joined_fits ts every.1 l)
 
 take_fits : (i : Instr) → ((s : Shape) (behind : List Shape) → Moves 1 0 s behind → IsFine i s behind) → (c : Text) → Leaves c → Keeps (c ++ i ∷ [])
 take_fits i is c lc l = seq c (i ∷ []) (at 0 l) (at 1 l) (at 0 l) (lc 0 l) (move i 1 0 0 1 0 l is refl refl)
@@ -274,7 +274,7 @@ cases_fit : (cs : List (Val × List Text)) → Every (λ (c : Val × List Text).
 cases_fit [] every l behind g h = record { all = behind; fine = refl; first = g; second = h }
 cases_fit (c ∷ cs) every l behind g h =
     let more = cases_fit cs every.1 l behind g h in
-    let b = joined c.1 in
+    let b = texts_joined c.1 in
     let P = at 0 l ∷ more.all in
     let B = joined_fits c.1 every.0 l P refl in
     let pass : AreFine (Jump 1 ∷ []) P more.all = (more.second, refl) in
@@ -330,9 +330,9 @@ case_pairs (y ∷ ys) = (stmt_pairs y.1, case_pairs ys)
 stmt_layer : (y : Stmt-F ((s : Stmt) × StmtFits s)) → Keeps (stmt_text (map-Stmt _ _ stmt_code (map-Stmt _ _ (λ e. e.0) y)))
 stmt_layer (Stmt-F.Set x e) = set_fits x (expr_code e AsValue) (expr_fits e AsValue)
 stmt_layer (Stmt-F.Do e) = take_fits Pop (λ s b m. m) (expr_code e AsValue) (expr_fits e AsValue)
-stmt_layer (Stmt-F.If e a b) = if_fits (expr_code e AsTruth) (joined (stmt_texts a)) (joined (stmt_texts b)) (expr_fits e AsTruth) (joined_fits (stmt_texts a) (stmt_pairs a)) (joined_fits (stmt_texts b) (stmt_pairs b))
-stmt_layer (Stmt-F.While e body) = while_fits (expr_code e AsTruth) (joined (stmt_texts body)) (expr_fits e AsTruth) (joined_fits (stmt_texts body) (stmt_pairs body))
-stmt_layer (Stmt-F.Switch e cs last) = switch_fits (expr_code e AsValue) (expr_fits e AsValue) (case_texts cs) (case_pairs cs) (joined (stmt_texts last)) (joined_fits (stmt_texts last) (stmt_pairs last))
+stmt_layer (Stmt-F.If e a b) = if_fits (expr_code e AsTruth) (texts_joined (stmt_texts a)) (texts_joined (stmt_texts b)) (expr_fits e AsTruth) (joined_fits (stmt_texts a) (stmt_pairs a)) (joined_fits (stmt_texts b) (stmt_pairs b))
+stmt_layer (Stmt-F.While e body) = while_fits (expr_code e AsTruth) (texts_joined (stmt_texts body)) (expr_fits e AsTruth) (joined_fits (stmt_texts body) (stmt_pairs body))
+stmt_layer (Stmt-F.Switch e cs last) = switch_fits (expr_code e AsValue) (expr_fits e AsValue) (case_texts cs) (case_pairs cs) (texts_joined (stmt_texts last)) (joined_fits (stmt_texts last) (stmt_pairs last))
 stmt_layer Stmt-F.Break = λ l behind g. (at 0 l ∷ behind, (refl, refl), refl)
 stmt_layer (Stmt-F.Return o) = return_fits o
 stmt_layer Stmt-F.Exit = counted_fits (Exit ∷ []) (λ l behind g. (at 0 l ∷ behind, (tt, refl), refl))
@@ -348,7 +348,7 @@ stmts_fit [] = tt
 stmts_fit (x ∷ xs) = (stmt_fits x, stmts_fit xs)
 
 -- a whole block
-pub block_shaped : (block : List Stmt) (behind : List Shape) → Shaped (block_code block) nothing behind
+pub block_shaped : (block : List Stmt) (behind : List Shape) → Shaped (text_of_block block) nothing behind
 block_shaped block behind =
     let c = list_code block in
     let C = joined_fits (map stmt_code block) (stmts_fit block) 0 (nothing ∷ behind) refl in

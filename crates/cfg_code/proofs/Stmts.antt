@@ -16,14 +16,14 @@ use Rattle.cfg_tree.specs.declared.script.Stmt.TheOpen.{Stmt-F}
 use Rattle.cfg_tree.specs.declared.script.Stmt.TheViews.{roll-Stmt}
 use Rattle.cfg_tree.specs.declared.script.Stmt.TheFolds.{fold-roll-Stmt, ind-Stmt, map-Stmt}
 use Rattle.cfg_tree.specs.declared.script.Script.{Script}
-use Rattle.cfg_tree.specs.Meaning.{RunTalk, State, Valued, AsValue, AsTruth, Routes, put_var, ends, counted, item_of, expansion_of, expr_of, Ways, Made, in_order, rounds, onward, chosen, write_host, assigned, returned, stmt_step, stmt_of, block_of, block_at, routes_to, end_of, max_statements, dialogue}
+use Rattle.cfg_tree.specs.Meaning.{RunTalk, State, Valued, AsValue, AsTruth, Routes, put_var, ends, counted, item_of, expansion_of, expr_of, Ways, Made, in_order, rounds, onward, chosen, write_host, assigned, returned, stmt_meaning_step, stmt_of, block_meaning, block_at, routes_to, end_of, max_statements, dialogue}
 use Rattle.cfg_code.specs.declared.instr.Instr.{Instr}
 use Rattle.cfg_code.specs.declared.instr.Instr.TheVariants.{Push, Store, Write, WriteItem, CallBlock, Pop, CountStatement, JumpIfFalse, Jump, Case, BeginLoop, BeginRound, LoopBack, EndLoop, Break, Return, Exit, Drop, EndBlock}
 use Rattle.cfg_code.specs.Flat.{FlatScript}
 use Rattle.cfg_code.specs.declared.machine.Frame.{Frame}
 use Rattle.cfg_code.specs.declared.machine.Frame.TheVariants.{Loop, Back}
 use Rattle.cfg_code.specs.declared.machine.Wait.TheVariants as wait
-use Rattle.cfg_code.specs.Code.{Text, joined, expansion_code, expr_code, set_text, if_text, while_text, case_text, cases_text, switch_text, return_text, stmt_text, stmt_code, list_code, block_code}
+use Rattle.cfg_code.specs.Code.{Text, texts_joined, expansion_code, expr_code, set_text, if_text, while_text, case_text, cases_text, switch_text, return_text, stmt_text, stmt_code, list_code, text_of_block}
 use Rattle.cfg_code.specs.Machine.{moved, jump, leave, breaking, looping_back, casing, act, entry, begun}
 use Rattle.cfg_code.specs.Follows.{HasAt, Stands, Behaves}
 use Rattle.cfg_code.proofs.Places.{has_front, has_back, run_at, After, by_act, asked_behind, at_place, count_from, count_right, Each, Right}
@@ -46,16 +46,16 @@ module _ (loaded : FlatScript) where
     ways_at : (p q : ℕ) (stack : List Val) (frames : List Frame) (ways : Ways) → p ≡ q → RightWays d p stack frames ways → RightWays d q stack frames ways
     ways_at p q stack frames ways e w = subst (λ q. RightWays d q stack frames ways) e w
 
-    list_right : (ts : List Text) (ms : List Made) → Each RightMade ts ms → RightMade (joined ts) (in_order ms)
+    list_right : (ts : List Text) (ms : List Made) → Each RightMade ts ms → RightMade (texts_joined ts) (in_order ms)
     list_right [] [] each p stack frames s ways has w = let e : p ≡ p + 0 = omega arith in at_place loaded [] _ _ stack frames d s _ e (w.on s)
     list_right [] (m ∷ ms) each p stack frames s ways has w = absurd each
     list_right (t ∷ ts) [] each p stack frames s ways has w = absurd each
     list_right (t ∷ ts) (m ∷ ms) each p stack frames s ways has w =
         let code = loaded.code.instrs in
-        let len : p + length (t ++ joined ts) ≡ p + length t + length (joined ts) = omega (arith, length-append t (joined ts)) in
+        let len : p + length (t ++ texts_joined ts) ≡ p + length t + length (texts_joined ts) = omega (arith, length-append t (texts_joined ts)) in
         let w' = ways_at _ _ stack frames ways len w in
-        each.0 p stack frames s _ (has_front code p t (joined ts) has) (record {
-          on = λ s. list_right ts ms each.1 (p + length t) stack frames s ways (has_back code p t (joined ts) has) w';
+        each.0 p stack frames s _ (has_front code p t (texts_joined ts) has) (record {
+          on = λ s. list_right ts ms each.1 (p + length t) stack frames s ways (has_back code p t (texts_joined ts) has) w';
           out = w.out;
           back = w.back;
         })
@@ -239,7 +239,7 @@ module _ (loaded : FlatScript) where
     cases_right (c ∷ cs) [] each last default rest rd p stack frames ways has w = absurd each
     cases_right (c ∷ cs) (e ∷ es) each last default rest rd p stack frames ways has w =
         let code = loaded.code.instrs in
-        let b = joined c.1 in
+        let b = texts_joined c.1 in
         let t = case_text c.0 b in
         let ts = cases_text cs in
         let h = subst (λ x. HasAt code p x) (append_assoc t ts (Pop ∷ (last ++ rest))) has in
@@ -333,15 +333,15 @@ module _ (loaded : FlatScript) where
       cased_right [] = tt
       cased_right (y ∷ ys) = ((refl, pairs_right y.1), cased_right ys)
 
-      all_right : (ys : Parts) → RightMade (joined (texts_of ys)) (in_order (mades_of ys))
+      all_right : (ys : Parts) → RightMade (texts_joined (texts_of ys)) (in_order (mades_of ys))
       all_right ys = list_right (texts_of ys) (mades_of ys) (pairs_right ys)
 
-      layer : (y : Stmt-F ((s : Stmt) × Fine s)) → RightMade (stmt_text (map-Stmt _ _ stmt_code (map-Stmt _ _ (λ e. e.0) y))) (stmt_step script route (map-Stmt _ _ (stmt_of script route) (map-Stmt _ _ (λ e. e.0) y)))
+      layer : (y : Stmt-F ((s : Stmt) × Fine s)) → RightMade (stmt_text (map-Stmt _ _ stmt_code (map-Stmt _ _ (λ e. e.0) y))) (stmt_meaning_step script route (map-Stmt _ _ (stmt_of script route) (map-Stmt _ _ (λ e. e.0) y)))
       layer (Stmt-F.Set x e) = set_right x (expr_code e AsValue) (expr_of script route e AsValue) (value_right e AsValue)
       layer (Stmt-F.Do e) = take_right (expr_code e AsValue) (expr_of script route e AsValue) (value_right e AsValue) Pop (λ ways v. ways.on) (λ p stack frames ways v s at w. w.on s)
-      layer (Stmt-F.If e a b) = if_right (expr_code e AsTruth) (expr_of script route e AsTruth) (value_right e AsTruth) (joined (texts_of a)) (joined (texts_of b)) (in_order (mades_of a)) (in_order (mades_of b)) (all_right a) (all_right b)
-      layer (Stmt-F.While e body) = while_right script.parameters.max_while_loops (subst (λ ps. ps.max_while_loops ≡ script.parameters.max_while_loops) (sym stands.parameters) refl) (expr_code e AsTruth) (expr_of script route e AsTruth) (value_right e AsTruth) (joined (texts_of body)) (in_order (mades_of body)) (all_right body)
-      layer (Stmt-F.Switch e cs last) = switch_right (expr_code e AsValue) (expr_of script route e AsValue) (value_right e AsValue) (case_texts cs) (case_mades cs) (cased_right cs) (joined (texts_of last)) (mades_of last) (all_right last)
+      layer (Stmt-F.If e a b) = if_right (expr_code e AsTruth) (expr_of script route e AsTruth) (value_right e AsTruth) (texts_joined (texts_of a)) (texts_joined (texts_of b)) (in_order (mades_of a)) (in_order (mades_of b)) (all_right a) (all_right b)
+      layer (Stmt-F.While e body) = while_right script.parameters.max_while_loops (subst (λ ps. ps.max_while_loops ≡ script.parameters.max_while_loops) (sym stands.parameters) refl) (expr_code e AsTruth) (expr_of script route e AsTruth) (value_right e AsTruth) (texts_joined (texts_of body)) (in_order (mades_of body)) (all_right body)
+      layer (Stmt-F.Switch e cs last) = switch_right (expr_code e AsValue) (expr_of script route e AsValue) (value_right e AsValue) (case_texts cs) (case_mades cs) (cased_right cs) (texts_joined (texts_of last)) (mades_of last) (all_right last)
       layer Stmt-F.Break = λ p stack frames s ways has w. count_from loaded d p stack frames Break (λ r. breaking r.frames r) ways.out has.0 (λ r. refl) (λ s. w.out s (p + 1) frames) s.left s.env
       layer (Stmt-F.Return o) = return_right o
       layer Stmt-F.Exit = λ p stack frames s ways has w. count_right loaded d p stack frames _ has.0 (λ s. by_act loaded (run_at (p + 1) stack frames d s) Exit _ has.1.0 (_, refl, refl)) s
@@ -351,18 +351,18 @@ module _ (loaded : FlatScript) where
       stmt_right = ind-Stmt Fine (λ x y is. subst (λ x. Fine (roll-Stmt x)) is (
           let x = map-Stmt ((s : Stmt) × Fine s) Stmt (λ e. e.0) y in
           subst (λ c. RightMade c (stmt_of script route (roll-Stmt x))) (sym (fold-roll-Stmt Text stmt_text x)) (
-          subst (λ m. RightMade (stmt_text (map-Stmt _ _ stmt_code x)) m) (sym (fold-roll-Stmt Made (stmt_step script route) x)) (layer y))))
+          subst (λ m. RightMade (stmt_text (map-Stmt _ _ stmt_code x)) m) (sym (fold-roll-Stmt Made (stmt_meaning_step script route) x)) (layer y))))
 
       stmts_right : (block : List Stmt) → Each RightMade (map stmt_code block) (map (stmt_of script route) block)
       stmts_right [] = tt
       stmts_right (x ∷ xs) = (stmt_right x, stmts_right xs)
 
       -- a whole block, from where it begins
-      block_right : (block : List Stmt) (p : ℕ) (stack : List Val) (frames : List Frame) (s : State) (ways : Ways) → HasAt loaded.code.instrs p (block_code block) →
+      block_right : (block : List Stmt) (p : ℕ) (stack : List Val) (frames : List Frame) (s : State) (ways : Ways) → HasAt loaded.code.instrs p (text_of_block block) →
           ((s : State) (q : ℕ) → After loaded (leave frames (pos 1) how.Normal (run_at q stack frames d s)) (ways.on s)) →
           ((s : State) (q : ℕ) (old : List Frame) → After loaded (breaking frames (run_at q stack old d s)) (ways.out s)) →
           ((n : ℤ) (s : State) (q : ℕ) (old : List Frame) → After loaded (leave frames n (end_of n) (run_at q stack old d s)) (ways.back n s)) →
-          Behaves loaded (run_at p stack frames d s) (block_of script route block ways s)
+          Behaves loaded (run_at p stack frames d s) (block_meaning script route block ways s)
       block_right block p stack frames s ways has on out back =
           let code = loaded.code.instrs in
           let c = list_code block in

@@ -23,13 +23,13 @@ abbrev pub Text : Type 0
 Text = List Instr
 
 -- one text after another
-abbrev pub joined : List Text → Text
-joined [] = []
-joined (t ∷ ts) = t ++ joined ts
+abbrev pub texts_joined : List Text → Text
+texts_joined [] = []
+texts_joined (t ∷ ts) = t ++ texts_joined ts
 
 -- ---- expanded texts
 
--- a part, whose text is put behind the text on the stack
+-- a part, whose text is put after the text on the stack
 abbrev pub concat_text : Text → Text
 concat_text part = part ++ Concat ∷ []
 
@@ -37,7 +37,7 @@ abbrev pub concats : List Text → Text
 concats [] = []
 concats (p ∷ ps) = concat_text p ++ concats ps
 
--- an expanded text: the empty text, and each part behind it
+-- an expanded text: the empty text, and each part after it
 abbrev pub expansion_text : List Text → Text
 expansion_text parts = Push (val.Text []) ∷ concats parts
 
@@ -84,7 +84,7 @@ abbrev pub links_text : List (BinOp × (Wanted → Text)) → Text
 links_text [] = []
 links_text (c ∷ cs) = link_text c.0 (c.1 AsValue) ++ links_text cs
 
--- behind a 1 or 0: an operand of `&&`, which is passed behind a 0
+-- after a 1 or 0: an operand of `&&`, which is passed after a 0
 abbrev pub and_text : Text → Text
 and_text a = JumpIfFalseOrPop (length a + 1) ∷ (a ++ ToBool ∷ [])
 
@@ -92,7 +92,7 @@ abbrev pub ands_text : List (Wanted → Text) → Text
 ands_text [] = []
 ands_text (a ∷ more) = and_text (a AsTruth) ++ ands_text more
 
--- an operand of `||`, which is passed behind a 1
+-- an operand of `||`, which is passed after a 1
 abbrev pub or_text : Text → Text
 or_text a = JumpIfTrueOrPop (length a + 1) ∷ (a ++ ToBool ∷ [])
 
@@ -151,7 +151,7 @@ case_text label body = Case label (length body + 1) ∷ (body ++ Jump 1 ∷ [])
 
 abbrev pub cases_text : List (Val × List Text) → Text
 cases_text [] = []
-cases_text (c ∷ cs) = case_text c.0 (joined c.1) ++ cases_text cs
+cases_text (c ∷ cs) = case_text c.0 (texts_joined c.1) ++ cases_text cs
 
 -- a switch: the value, which the case that equals it takes, and else the default
 abbrev pub switch_text : Text → Text → Text → Text
@@ -166,10 +166,10 @@ return_text (Some e) = expr_code e AsValue ++ Return ∷ []
 abbrev pub stmt_text : Stmt-F Text → Text
 stmt_text (Stmt-F.Set target e) = set_text target (expr_code e AsValue)
 stmt_text (Stmt-F.Do e) = expr_code e AsValue ++ Pop ∷ []
-stmt_text (Stmt-F.If e first other) = if_text (expr_code e AsTruth) (joined first) (joined other)
-stmt_text (Stmt-F.While e body) = while_text (expr_code e AsTruth) (joined body)
+stmt_text (Stmt-F.If e first other) = if_text (expr_code e AsTruth) (texts_joined first) (texts_joined other)
+stmt_text (Stmt-F.While e body) = while_text (expr_code e AsTruth) (texts_joined body)
 stmt_text (Stmt-F.Switch e cases default) =
-    switch_text (expr_code e AsValue) (cases_text cases) (joined default)
+    switch_text (expr_code e AsValue) (cases_text cases) (texts_joined default)
 stmt_text Stmt-F.Break = Break ∷ []
 stmt_text (Stmt-F.Return e) = CountStatement ∷ return_text e
 stmt_text Stmt-F.Exit = CountStatement ∷ Exit ∷ []
@@ -180,11 +180,11 @@ stmt_code = fold-Stmt Text stmt_text
 
 -- the statements of a list
 abbrev pub list_code : List Stmt → Text
-list_code block = joined (map stmt_code block)
+list_code block = texts_joined (map stmt_code block)
 
 -- the cases of a switch
 abbrev pub cases_code : List (Val × List Stmt) → Text
 cases_code cases = cases_text (map (λ (c : Val × List Stmt). (c.0, map stmt_code c.1)) cases)
 
-abbrev pub block_code : List Stmt → Text
-block_code block = list_code block ++ EndBlock ∷ []
+abbrev pub text_of_block : List Stmt → Text
+text_of_block block = list_code block ++ EndBlock ∷ []

@@ -10,7 +10,7 @@ use Rattle.cfg_code.specs.declared.instr.Instr.{Instr}
 use Rattle.cfg_code.specs.Flat.{FlatScript}
 use Rattle.cfg_code.specs.declared.machine.Event.TheVariants.{Moved, Asked, Over}
 use Rattle.cfg_code.specs.declared.machine.Wait.TheVariants as wait
-use Rattle.cfg_code.specs.Code.{block_code}
+use Rattle.cfg_code.specs.Code.{text_of_block}
 use Rattle.cfg_code.specs.Machine.{Configuration, IsOpen, entry, step_of, asked_of, told}
 
 -- these instructions stand in the code from this place on
@@ -20,7 +20,7 @@ HasAt code place (i ∷ is) = (slice_get code place ≡ Some i) × HasAt code (p
 
 -- the code stands for the script: each block's instructions stand where it begins, and all else is the script's
 pub record Stands (loaded : FlatScript) (script : Script) : Type 0 where
-  pub blocks : (b : ℕ) → HasAt loaded.code.instrs (entry loaded b) (block_code (block_at script b))
+  pub blocks : (b : ℕ) → HasAt loaded.code.instrs (entry loaded b) (text_of_block (block_at script b))
   pub count : length loaded.code.entries ≡ length script.blocks
   pub request : loaded.request ≡ script.request
   pub reply : loaded.reply ≡ script.reply

@@ -24,7 +24,7 @@ use Rattle.cfg_code.specs.declared.machine.Wait.TheVariants as wait
 use Rattle.cfg_code.specs.declared.machine.Event.{Event}
 use Rattle.cfg_code.specs.declared.machine.Event.TheVariants.{Moved, Asked, Over, Stuck}
 
--- What a run has at a moment: the place of its next instruction, the operand stack, top first, the arguments of the next
+-- What a run has at a time: the place of its next instruction, the operand stack, top first, the arguments of the next
 -- call, the open loops and waiting blocks, top first, how many calls may still be nested, the variables, how many
 -- statements it may still begin, and what it waits for. What it asks about stays where it lies until the answer takes it.
 pub record Configuration : Type 0 where
@@ -171,7 +171,7 @@ calling_block (suc calls) to r =
 abbrev pub entry : FlatScript → ℕ → ℕ
 entry loaded block = slice_index_or loaded.code.entries block 0
 
--- what an instruction does, where the run's place is behind it
+-- what an instruction does, where the run's place is after it
 abbrev pub act : FlatScript → Instr → Configuration → Next
 act loaded (Push v) r = moved (put v r)
 act loaded (Load x) r = moved (put (slice_index_or r.env.vars x val.Null) r)

@@ -12,7 +12,7 @@ pub record Shape : Type 0 where
 abbrev pub nothing : Shape
 nothing = record { values = 0; loops = 0 }
 
--- the instruction so many behind the next one is in the code, and this stands there
+-- the instruction so many after the next one is in the code, and this stands there
 abbrev pub Leads : List Shape → ℕ → Shape → Type 0
 Leads behind n s = slice_get behind n ≡ Some s
 
@@ -21,7 +21,7 @@ abbrev pub Moves : ℕ → ℕ → Shape → List Shape → Type 0
 Moves takes leaves s behind =
     (rest : ℕ) × (after : ℕ) × (s.values ≡ takes + rest) × (after ≡ leaves + rest) × Leads behind 0 (record s { values = after })
 
--- an instruction finds what it takes, and leads into the code; `behind` is what stands behind it, place by place
+-- an instruction finds what it takes, and leads into the code; `behind` is what stands after it, place by place
 abbrev pub IsFine : Instr → Shape → List Shape → Type 0
 IsFine (Push v) s behind = Moves 0 1 s behind
 IsFine (Load x) s behind = Moves 0 1 s behind
@@ -60,7 +60,7 @@ IsFine Exit s behind = Unit {0}
 IsFine Drop s behind = Unit {0}
 IsFine EndBlock s behind = s ≡ nothing
 
--- these instructions are fine, where these shapes stand at their places, and those behind them
+-- these instructions are fine, where these shapes stand at their places, and those after them
 abbrev pub AreFine : List Instr → List Shape → List Shape → Type 0
 AreFine [] shapes behind = shapes ≡ behind
 AreFine (i ∷ is) [] behind = ⊥
@@ -75,6 +75,6 @@ pub record IsSound (code : Flat) (shapes : List Shape) : Type 0 where
 pub record AllSound (instrs : List Instr) (entries : List ℕ) : Type 0 where
   pub shapes : ∥ ((shapes : List Shape) × IsSound (record { instrs = instrs; entries = entries }) shapes) ∥₁
 
--- what stands at these instructions, and behind them, where this stands at the first of them
+-- what stands at these instructions, and after them, where this stands at the first of them
 abbrev pub Shaped : List Instr → Shape → List Shape → Type 0
 Shaped instrs s behind = (all : List Shape) × AreFine instrs all behind × Leads all 0 s

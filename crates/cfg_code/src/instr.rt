@@ -5,7 +5,7 @@ use pv_values::{BinOp, Func, PvUse, Transformation, Val};
 
 /// One instruction. It takes values from the top of the operand stack and leaves one there, as said
 /// at each. Then the next one is made, where nothing else is said. To *jump* by a number is to go on
-/// behind so many of the next instructions. What an instruction asks about lies on the stack, or among
+/// after so many of the next instructions. What an instruction asks about lies on the stack, or among
 /// the arguments, until the answer comes.
 #[derive(Debug, Drop)]
 pub enum Instr {
@@ -29,7 +29,7 @@ pub enum Instr {
     WriteItem(TableUse, u32),
     /// Takes a value, and leaves what the transformation makes of it.
     Transform(Transformation),
-    /// Takes a value, and a text or `$null` from below it, and leaves the text with the value's behind
+    /// Takes a value, and a text or `$null` from below it, and leaves the text with the value's after
     /// it, as `+` does: `$null` where that is above 8,192 bytes, or was `$null` before.
     Concat,
     /// Takes a value, which is one more argument of the next call.
@@ -65,7 +65,7 @@ pub enum Instr {
     Jump(u32),
     /// Takes the value where it equals this label. Else leaves it, and passes so many instructions.
     Case(Val, u32),
-    /// Begins a loop or a `switch`, which ends behind the so many next instructions.
+    /// Begins a loop or a `switch`, which ends after the so many next instructions.
     BeginLoop(u32),
     /// Begins a round of the loop, or ends the run where it would be one too many.
     BeginRound,

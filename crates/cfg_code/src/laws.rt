@@ -6,7 +6,7 @@ ghost use Rattle.cfg_tree.specs.declared.script.Stmt.{Stmt};
 ghost use Rattle.cfg_tree.specs.declared.script.Script.{Script};
 ghost use Rattle.cfg_tree.specs.Meaning.{dialogue};
 ghost use Rattle.cfg_code.specs.Flat.{FlatScript};
-ghost use Rattle.cfg_code.specs.Code.{block_code};
+ghost use Rattle.cfg_code.specs.Code.{text_of_block};
 ghost use Rattle.cfg_code.specs.declared.machine.Event.TheVariants.{Stuck};
 ghost use Rattle.cfg_code.specs.Machine.{Configuration, begun, step_of, asked_of};
 ghost use Rattle.cfg_code.specs.Follows.{Stands, Behaves};
@@ -25,7 +25,7 @@ pub fn the_code_means_the_script()
 /// The code of a block is sound, wherever it stands: its jumps stay in it, and its instructions find
 /// what they take.
 pub fn the_code_of_a_block_is_sound()
-    ensures { (block : List Stmt) (behind : List Shape) → Shaped (block_code block) nothing behind }
+    ensures { (block : List Stmt) (behind : List Shape) → Shaped (text_of_block block) nothing behind }
 {}
 
 /// Sound code never gets stuck, whatever a run of it is answered: each place that it comes to is in the
@@ -37,7 +37,7 @@ pub fn sound_code_is_never_stuck()
 
 /// The code of a closed block is closed: each number in it is one of the block.
 pub fn the_code_of_a_closed_block_is_closed()
-    ensures { (names : Names) (block : List Stmt) → IsTrue (closed_block names block) → IsTrue (closed_code names (block_code block)) }
+    ensures { (names : Names) (block : List Stmt) → IsTrue (closed_block names block) → IsTrue (closed_code names (text_of_block block)) }
 {}
 
 /// Whatever a run of closed code asks, each number in the ask names something that is there.

@@ -5,10 +5,10 @@
 //! and when code stands for a script `specs/Follows.antt`.
 #![tactic(auto)]
 
-pub mod code;
-pub mod instr;
+mod code;
+mod instr;
 pub mod laws;
-pub mod machine;
+mod machine;
 
 pub use code::{Code, Loaded};
 pub use instr::Instr;

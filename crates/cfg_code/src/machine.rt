@@ -5,7 +5,7 @@ use pv_values::How;
 /// A loop or `switch` that is open, or a block that waits for one that it called.
 #[derive(Clone, Copy, Debug, PartialEq, Eq)]
 pub enum Frame {
-    /// How many rounds it may begin, the place where each begins, and that behind its end.
+    /// How many rounds it may begin, the place where each begins, and that after its end.
     Loop {
         rounds_left: u32,
         start: usize,

@@ -12,12 +12,12 @@ use Rattle.cfg_tree.specs.declared.script.Script.{Script}
 use Rattle.cfg_tree.specs.Closed.{Names, closed_block, closed_reply, names_with, is_below, IsClosed}
 use Rattle.cfg_code.specs.declared.instr.Instr.{Instr}
 use Rattle.cfg_code.specs.declared.instr.Instr.TheVariants.{EndBlock}
-use Rattle.cfg_code.specs.Code.{block_code}
+use Rattle.cfg_code.specs.Code.{text_of_block}
 use Rattle.cfg_code.specs.Follows.{HasAt}
 use Rattle.cfg_code.specs.Flat.{Flat}
 use Rattle.cfg_code.specs.Closed.{closed_instr, closed_code, IsClosedCode}
 use Rattle.cfg_code.specs.Sound.{Shape, nothing, Leads, AllSound, AreFine, Shaped}
-use Rattle.cfg_compile.specs.Blocks.{StandsFor}
+use Rattle.cfg_compile.specs.Blocks.{StandAtEntries}
 
 get_longer : (code more : List Instr) (p : ℕ) (i : Instr) → slice_get code p ≡ Some i → slice_get (code ++ more) p ≡ Some i
 get_longer code more p i h =
@@ -44,7 +44,7 @@ fine_append [] b all mid behind e h = subst (λ x. AreFine b x behind) (sym e) h
 fine_append (i ∷ a) b [] mid behind e h = absurd e
 fine_append (i ∷ a) b (s ∷ all) mid behind e h = (e.0, fine_append a b all mid behind e.1 h)
 
--- behind instructions
+-- after instructions
 passed : (t : List Instr) (all behind : List Shape) (k : ℕ) → AreFine t all behind → k ≡ length t → slice_get all k ≡ slice_get behind 0
 passed [] all behind k e is = ap (λ x. slice_get x k) e ∙ ap (λ i. slice_get behind i) is
 passed (i ∷ t) [] behind k e is = absurd e
@@ -52,45 +52,45 @@ passed (i ∷ t) (s ∷ all) behind k e is =
     let more : k ≡ suc (length t) = omega (arith, is) in
     ap (λ i. slice_get (s ∷ all) i) more ∙ passed t all behind (length t) e.1 refl
 
--- the code so far is sound, whatever comes behind it
+-- the code so far is sound, whatever comes after it
 abbrev pub SoundBefore : List Instr → List ℕ → List Shape → Type 0
 SoundBefore code entries behind = (all : List Shape) × AreFine code all behind × ((b : ℕ) → Leads all (get_or entries b 0) nothing)
 
 -- the code of each block is sound
 abbrev pub EachSound : Type 0
-EachSound = (block : List Stmt) (behind : List Shape) → Shaped (block_code block) nothing behind
+EachSound = (block : List Stmt) (behind : List Shape) → Shaped (text_of_block block) nothing behind
 
 -- the code of each closed block is closed
 abbrev pub EachClosed : Type 0
-EachClosed = (names : Names) (block : List Stmt) → closed_block names block ≡ true → closed_code names (block_code block) ≡ true
+EachClosed = (names : Names) (block : List Stmt) → closed_block names block ≡ true → closed_code names (text_of_block block) ≡ true
 
 -- code that names what is there, where its blocks do
 abbrev pub ClosedAs : List Instr → List (List Stmt) → Type 0
 ClosedAs code blocks = (names : Names) → list_all (closed_block names) blocks ≡ true → closed_code names code ≡ true
 
-closed_more : EachClosed → (code : List Instr) (blocks : List (List Stmt)) (x : List Stmt) → ClosedAs code blocks → ClosedAs (code ++ block_code x) (blocks ++ x ∷ [])
+closed_more : EachClosed → (code : List Instr) (blocks : List (List Stmt)) (x : List Stmt) → ClosedAs code blocks → ClosedAs (code ++ text_of_block x) (blocks ++ x ∷ [])
 closed_more each code blocks x closed names e =
     let parts = and_parts _ _ (sym (list_all-append (closed_block names) blocks (x ∷ [])) ∙ e) in
     let last = and_parts (closed_block names x) true parts.1 in
-    list_all-append (closed_instr names) code (block_code x) ∙ and_from _ _ (closed names parts.0) (each names x last.0)
+    list_all-append (closed_instr names) code (text_of_block x) ∙ and_from _ _ (closed names parts.0) (each names x last.0)
 
 -- these blocks stand where they begin, and are sound and closed
 pub record Laid (code : List Instr) (entries : List ℕ) (blocks : List (List Stmt)) : Type 0 where
   pub start : HasAt code 0 (EndBlock ∷ [])
   pub count : length entries ≡ length blocks
-  pub each : (b : ℕ) → b < length blocks → HasAt code (get_or entries b 0) (block_code (get_or blocks b []))
+  pub each : (b : ℕ) → b < length blocks → HasAt code (get_or entries b 0) (text_of_block (get_or blocks b []))
   pub sound : (behind : List Shape) → SoundBefore code entries behind
   pub closed : ClosedAs code blocks
 
 pub laid_none : Laid (EndBlock ∷ []) [] []
 laid_none = record { start = (refl, tt); count = refl; each = λ b h. absurd (omega arith); sound = λ behind. (nothing ∷ behind, (refl, refl), λ b. refl); closed = λ names e. refl }
 
-sound_more : EachSound → (code : List Instr) (entries : List ℕ) (x : List Stmt) → ((behind : List Shape) → SoundBefore code entries behind) → (behind : List Shape) → SoundBefore (code ++ block_code x) (entries ++ length code ∷ []) behind
+sound_more : EachSound → (code : List Instr) (entries : List ℕ) (x : List Stmt) → ((behind : List Shape) → SoundBefore code entries behind) → (behind : List Shape) → SoundBefore (code ++ text_of_block x) (entries ++ length code ∷ []) behind
 sound_more each code entries x sound behind =
     let B = each x behind in
     let A = sound B.0 in (
       A.0,
-      fine_append code (block_code x) A.0 B.0 behind A.1 B.1,
+      fine_append code (text_of_block x) A.0 B.0 behind A.1 B.1,
       λ b. ⊎_elim
           (λ lt. subst (λ n. Leads A.0 n nothing) (sym (get_or_append_left entries (length code ∷ []) 0 b lt)) (A.2 b))
           (λ le. ⊎_elim
@@ -106,38 +106,38 @@ sound_more each code entries x sound behind =
           (cases_lt b (length entries)),
     )
 
-laid_more : EachSound → EachClosed → (code : List Instr) (entries : List ℕ) (blocks : List (List Stmt)) (x : List Stmt) → Laid code entries blocks → Laid (code ++ block_code x) (entries ++ length code ∷ []) (blocks ++ x ∷ [])
+laid_more : EachSound → EachClosed → (code : List Instr) (entries : List ℕ) (blocks : List (List Stmt)) (x : List Stmt) → Laid code entries blocks → Laid (code ++ text_of_block x) (entries ++ length code ∷ []) (blocks ++ x ∷ [])
 laid_more sound each_closed code entries blocks x laid = record {
-  start = has_longer code (block_code x) 0 (EndBlock ∷ []) laid.start;
+  start = has_longer code (text_of_block x) 0 (EndBlock ∷ []) laid.start;
   count = omega (arith, length-append entries (length code ∷ []), length-append blocks (x ∷ []), laid.count);
   each = λ b h. ⊎_elim
       (λ lt.
       let lt' : b < length entries = omega (arith, lt, laid.count) in
       let e = get_or_append_left entries (length code ∷ []) 0 b lt' in
       let f = get_or_append_left blocks (x ∷ []) [] b lt in
-      let old = has_longer code (block_code x) _ _ (laid.each b lt) in
-      subst (λ n. HasAt (code ++ block_code x) n (block_code (get_or (blocks ++ x ∷ []) b []))) (sym e)
-      (subst (λ l. HasAt (code ++ block_code x) (get_or entries b 0) (block_code l)) (sym f) old))
+      let old = has_longer code (text_of_block x) _ _ (laid.each b lt) in
+      subst (λ n. HasAt (code ++ text_of_block x) n (text_of_block (get_or (blocks ++ x ∷ []) b []))) (sym e)
+      (subst (λ l. HasAt (code ++ text_of_block x) (get_or entries b 0) (text_of_block l)) (sym f) old))
       (λ le.
       let last : b ≡ length blocks = omega (arith, le, h, length-append blocks (x ∷ [])) in
       let last' : b ≡ length entries = omega (arith, last, laid.count) in
       let e : get_or (entries ++ length code ∷ []) b 0 ≡ length code = ap (λ k. get_or (entries ++ length code ∷ []) k 0) last' ∙ get_or-append_seam entries (length code) [] 0 in
       let f : get_or (blocks ++ x ∷ []) b [] ≡ x = ap (λ k. get_or (blocks ++ x ∷ []) k []) last ∙ get_or-append_seam blocks x [] [] in
-      subst (λ n. HasAt (code ++ block_code x) n (block_code (get_or (blocks ++ x ∷ []) b []))) (sym e)
-      (subst (λ l. HasAt (code ++ block_code x) (length code) (block_code l)) (sym f) (has_all (block_code x) code)))
+      subst (λ n. HasAt (code ++ text_of_block x) n (text_of_block (get_or (blocks ++ x ∷ []) b []))) (sym e)
+      (subst (λ l. HasAt (code ++ text_of_block x) (length code) (text_of_block l)) (sym f) (has_all (text_of_block x) code)))
       (cases_lt b (length blocks));
   sound = sound_more sound code entries x laid.sound;
   closed = closed_more each_closed code blocks x laid.closed;
 }
 
-pub laid_all : (code : List Instr) (entries : List ℕ) (blocks : List (List Stmt)) → Laid code entries blocks → StandsFor code entries blocks
+pub laid_all : (code : List Instr) (entries : List ℕ) (blocks : List (List Stmt)) → Laid code entries blocks → StandAtEntries code entries blocks
 laid_all code entries blocks laid b = ⊎_elim
     (λ lt. laid.each b lt)
     (λ le.
     let le' : length entries ≤ b = omega (arith, le, laid.count) in
     let e = get_or_past entries b 0 le' in
     let f = get_or_past blocks b [] le in
-    subst (λ n. HasAt code n (block_code (get_or blocks b []))) (sym e) (subst (λ l. HasAt code 0 (block_code l)) (sym f) laid.start))
+    subst (λ n. HasAt code n (text_of_block (get_or blocks b []))) (sym e) (subst (λ l. HasAt code 0 (text_of_block l)) (sym f) laid.start))
     (cases_lt b (length blocks))
 
 pub laid_sound : (code : List Instr) (entries : List ℕ) (blocks : List (List Stmt)) → Laid code entries blocks → AllSound code entries
@@ -146,7 +146,7 @@ laid_sound code entries blocks laid =
     record { shapes = ∣ (A.0, record { fine = A.1; blocks = A.2 }) ∣₁ }
 
 pub laid_on : EachSound → EachClosed → (code code' text : List Instr) (entries entries' : List ℕ) (at : ℕ) (blocks : List (List Stmt)) (i : ℕ) (x : List Stmt) → i < length blocks → x ≡ get_or blocks i x →
-    at ≡ length code → entries' ≡ entries ++ at ∷ [] → text ≡ block_code x → code' ≡ code ++ text → Laid code entries (take i blocks) → Laid code' entries' (take (i + 1) blocks)
+    at ≡ length code → entries' ≡ entries ++ at ∷ [] → text ≡ text_of_block x → code' ≡ code ++ text → Laid code entries (take i blocks) → Laid code' entries' (take (i + 1) blocks)
 laid_on sound each_closed code code' text entries entries' at blocks i x h is e f t g laid =
     let next : take (i + 1) blocks ≡ take i blocks ++ x ∷ [] = take_more blocks i x h ∙ ap (λ x. take i blocks ++ x ∷ []) (sym is) in
     rw (next, g, t, f, e) (laid_more sound each_closed code entries (take i blocks) x laid)

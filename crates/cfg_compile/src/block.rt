@@ -4,9 +4,9 @@ ghost use Rattle.std.specs.Prelude.{◌≡◌, IfOk, IsTrue, length};
 ghost use Rattle.std.specs.List.{list_all};
 ghost use Rattle.cfg_tree.specs.Closed.{Names, closed_block};
 ghost use Rattle.cfg_code.specs.Closed.{closed_code};
-ghost use Rattle.cfg_code.specs.Code.{block_code};
+ghost use Rattle.cfg_code.specs.Code.{text_of_block};
 ghost use Rattle.cfg_code.specs.Follows.{Stands};
-ghost use Rattle.cfg_compile.specs.Blocks.{StandsFor};
+ghost use Rattle.cfg_compile.specs.Blocks.{StandAtEntries};
 
 use crate::stmt::list_text;
 use crate::text::{ended, one};
@@ -16,7 +16,7 @@ use cfg_tree::{ClosedScript, Script, Stmt};
 use sqlite_items::Items;
 use std::alloc::{AllocError as NoMemory, Global};
 
-/// The code of a script. It stands for the script; only want of memory gives none, which is also said
+/// The code of a script. It stands for the script. There is none only where it is out of memory, which is also said
 /// where the code of one statement has 2 ^ 31 instructions.
 ///
 /// ```
@@ -50,7 +50,7 @@ pub fn compile(alloc: Global, script: ClosedScript) -> Result<Loaded, NoMemory>
 /// The code of all blocks: an empty block, which stands for each that isn't there, and then each of
 /// them.
 fn blocks_code(alloc: Global, blocks: &[Items<Stmt>]) -> Result<Code, NoMemory>
-    ensures stands { IfOk result (λ code. StandsFor code.instrs code.entries blocks.now) }
+    ensures stands { IfOk result (λ code. StandAtEntries code.instrs code.entries blocks.now) }
     ensures count { IfOk result (λ code. length code.entries ≡ length blocks.now) }
     ensures closed { IfOk result (λ code. (names : Names) → IsTrue (list_all (closed_block names) blocks.now) → IsTrue (closed_code names code.instrs)) }
 {
@@ -66,7 +66,7 @@ fn blocks_code(alloc: Global, blocks: &[Items<Stmt>]) -> Result<Code, NoMemory>
 }
 
 fn block_text(alloc: Global, block: &[Stmt]) -> Result<Items<Instr>, NoMemory>
-    ensures { IfOk result (λ text. text ≡ block_code block.now) }
+    ensures { IfOk result (λ text. text ≡ text_of_block block.now) }
 {
     let text = list_text(alloc, block)?;
     ended(text, Instr::EndBlock)

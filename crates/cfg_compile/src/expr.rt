@@ -9,8 +9,7 @@ use crate::part::{arguments_text, part_text};
 use crate::text::{and_operand, begun, both, called, ended, linked, one, or_operand};
 use cfg_code::Instr;
 use cfg_tree::Expr;
-use pv_values::Val;
-use pv_values::operator::{bit_value, text_value};
+use pv_values::{Val, bit_value, text_value};
 use sqlite_items::Items;
 use std::alloc::{AllocError as NoMemory, Global};
 

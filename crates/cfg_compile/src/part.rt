@@ -31,7 +31,7 @@ pub fn part_text(alloc: Global, part: &Part) -> Result<Items<Instr>, NoMemory>
     }
 }
 
-/// The parts, each put behind the text on the stack.
+/// The parts, each put after the text on the stack.
 #[cycle(parts)]
 fn concats_text(alloc: Global, parts: &[Part]) -> Result<Items<Instr>, NoMemory>
     ensures { IfOk result (λ text. text ≡ concats_code parts.now) }

@@ -27,7 +27,7 @@ pub fn two(alloc: Global, first: Instr, second: Instr) -> Result<Items<Instr>, N
     Ok(text)
 }
 
-/// A text, and one instruction behind it.
+/// A text, and one instruction after it.
 pub fn ended(text: Items<Instr>, last: Instr) -> Result<Items<Instr>, NoMemory>
     ensures { IfOk result (λ whole. whole ≡ text ++ last ∷ []) }
 {
@@ -36,7 +36,7 @@ pub fn ended(text: Items<Instr>, last: Instr) -> Result<Items<Instr>, NoMemory>
     Ok(whole)
 }
 
-/// Two texts, one behind the other.
+/// Two texts, one after the other.
 pub fn both(first: Items<Instr>, second: Items<Instr>) -> Result<Items<Instr>, NoMemory>
     ensures { IfOk result (λ text. text ≡ first ++ second) }
 {
@@ -45,7 +45,7 @@ pub fn both(first: Items<Instr>, second: Items<Instr>) -> Result<Items<Instr>, N
     Ok(text)
 }
 
-/// One instruction, and a text behind it.
+/// One instruction, and a text after it.
 pub fn begun(alloc: Global, first: Instr, text: Items<Instr>) -> Result<Items<Instr>, NoMemory>
     ensures { IfOk result (λ whole. whole ≡ first ∷ text) }
 {
@@ -88,7 +88,7 @@ pub fn linked(
     both(first, link)
 }
 
-/// An operand of `&&`, behind the ones before it.
+/// An operand of `&&`, after the ones before it.
 pub fn and_operand(alloc: Global, operand: Items<Instr>) -> Result<Items<Instr>, NoMemory>
     ensures { IfOk result (λ text. text ≡ and_text operand) }
 {
@@ -96,7 +96,7 @@ pub fn and_operand(alloc: Global, operand: Items<Instr>) -> Result<Items<Instr>,
     between(alloc, Instr::JumpIfFalseOrPop(skip), operand, Instr::ToBool)
 }
 
-/// An operand of `||`, behind the ones before it.
+/// An operand of `||`, after the ones before it.
 pub fn or_operand(alloc: Global, operand: Items<Instr>) -> Result<Items<Instr>, NoMemory>
     ensures { IfOk result (λ text. text ≡ or_text operand) }
 {
@@ -104,7 +104,7 @@ pub fn or_operand(alloc: Global, operand: Items<Instr>) -> Result<Items<Instr>, 
     between(alloc, Instr::JumpIfTrueOrPop(skip), operand, Instr::ToBool)
 }
 
-/// A length and some more, as a jump has it. Only where that is 2 ^ 31 or more it counts as want of
+/// A length and some more, as a jump has it. Where that is 2 ^ 31 or more, and nowhere else, it counts as out of
 /// memory: the code would have as many instructions.
 pub fn offset(length: usize, more: u32) -> Result<u32, NoMemory>
     ensures sum { IfOk result (λ n. n ≡ length + more) }

@@ -20,7 +20,7 @@ is_end : (xs : List ℕ) → begins_end (42 ∷ 47 ∷ xs) ≡ true
 unfolding begins_end
 is_end xs = refl
 
--- behind a byte of the comment
+-- after a byte of the comment
 behind_byte : (a : ℕ) (xs : List ℕ) → NoEnd (a ∷ xs) → NoEnd xs
 behind_byte a xs none = λ front back e. none (a ∷ front) back (ap (λ (ys : List ℕ). a ∷ ys) e)
 
@@ -84,7 +84,7 @@ head_is x y xs ys e = cc
 pub tail_is : (x y : ℕ) (xs ys : List ℕ) → x ∷ xs ≡ y ∷ ys → xs ≡ ys
 tail_is x y xs ys e = cc
 
--- a star, and a slash behind it
+-- a star, and a slash after it
 ends_at_once : (v back rest : List ℕ) → v ++ 42 ∷ [] ≡ 47 ∷ back → begins_end (42 ∷ (v ++ 42 ∷ 47 ∷ rest)) ≡ true
 unfolding begins_end
 ends_at_once [] back rest e = absurd (omega (arith, head_is 42 47 [] back e))

@@ -12,17 +12,18 @@ use Rattle.std.proofs.lemmas.Option.{cond_some, same_Some, none-some}
 use Rattle.std.proofs.lemmas.Slice.Eq.{bytes_eq-Decides}
 use Rattle.sip_words.specs.declared.bytes.Class.TheVariants as class
 use Rattle.sip_words.specs.Bytes.{has}
-use Rattle.sip_words.specs.Words.{word_end, stands, run_end}
+use Rattle.sip_words.specs.Words.{word_end, stands, byte_end, run_end}
 use Rattle.sip_words.specs.Numbers.{number_at}
 use Rattle.sip_words.proofs.Digits.{word_is}
 use Rattle.sip_words.proofs.Steps.{bind_some}
 use Rattle.sip_words.proofs.Pieces.{behind, number_again, stands_at}
 use Rattle.sip_words.proofs.Pieces as pieces
 use Rattle.sip_words.proofs.Takes.{Takes, number_takes, stands_takes, not_none}
-use Rattle.sip_words.specs.Addresses.{octet_at, dot_end, v4_at}
+use Rattle.sip_words.specs.Addresses.{octet_at, dot_end, v4_at, port_number_at}
+use Rattle.sip_words.specs.ByteNames.{COLON}
 use Rattle.sip_fields.specs.Parts.{Numbers, host, IsOctet, AreOctets}
 use Rattle.cfg_tree.specs.declared.setting.Listen.{Listen}
-use Rattle.cfg_lex.specs.Listens.{begins_udp, listen_port_at, colon_end, listen_address_at, listen_at}
+use Rattle.cfg_lex.specs.Listens.{begins_udp, listen_address_at, listen_at}
 use Rattle.cfg_lex.specs.Tokens.{Ends, IsListenPort, IsListen}
 use Rattle.cfg_lex.proofs.RunLaw.{run_taken}
 
@@ -55,16 +56,16 @@ dot_takes : (text : List ℕ) (i j : ℕ) → dot_end text i ≡ Some j → Take
 unfolding dot_end
 dot_takes text i j h = let c = cond_some (stands 46 text i) (i + 1) j h in subst (λ k. Takes text i k (46 ∷ [])) c.1 (stands_takes 46 text i c.0)
 
-colon_again : (text : List ℕ) (i : ℕ) (rest : List ℕ) → drop i text ≡ 58 ∷ rest → colon_end text i ≡ Some (i + 1)
-unfolding colon_end
+colon_again : (text : List ℕ) (i : ℕ) (rest : List ℕ) → drop i text ≡ 58 ∷ rest → byte_end COLON text i ≡ Some (i + 1)
+unfolding byte_end
 colon_again text i rest h = rw (stands_at 58 text i rest h) refl
 
-colon_takes : (text : List ℕ) (i j : ℕ) → colon_end text i ≡ Some j → Takes text i j (58 ∷ [])
-unfolding colon_end
+colon_takes : (text : List ℕ) (i j : ℕ) → byte_end COLON text i ≡ Some j → Takes text i j (58 ∷ [])
+unfolding byte_end
 colon_takes text i j h = let c = cond_some (stands 58 text i) (i + 1) j h in subst (λ k. Takes text i k (58 ∷ [])) c.1 (stands_takes 58 text i c.0)
 
-port_again : (text : List ℕ) (i : ℕ) (w rest : List ℕ) → drop i text ≡ w ++ rest → IsListenPort w → pieces.Ends class.Digit rest → listen_port_at text i ≡ Some (digits_value 10 w, i + length w)
-unfolding listen_port_at
+port_again : (text : List ℕ) (i : ℕ) (w rest : List ℕ) → drop i text ≡ w ++ rest → IsListenPort w → pieces.Ends class.Digit rest → port_number_at text i ≡ Some (digits_value 10 w, i + length w)
+unfolding port_number_at
 port_again text i w rest h is ends =
     let low : nat_lt 0 (digits_value 10 w) ≡ true = lt-ltb _ _ is.low in
     let high : nat_lt (digits_value 10 w) 65536 ≡ true = lt-ltb _ _ is.high in
@@ -74,8 +75,8 @@ cond_inner : {A : Type 0} (b : Bool) (o : Option A) (y : A) → cond b o None �
 cond_inner true o y k = (refl, k)
 cond_inner false o y k = absurd (none-some y k)
 
-port_takes : (text : List ℕ) (i : ℕ) (r : ℕ × ℕ) → listen_port_at text i ≡ Some r → (w : List ℕ) × Takes text i r.1 w × IsListenPort w × (r.0 ≡ digits_value 10 w)
-unfolding listen_port_at
+port_takes : (text : List ℕ) (i : ℕ) (r : ℕ × ℕ) → port_number_at text i ≡ Some r → (w : List ℕ) × Takes text i r.1 w × IsListenPort w × (r.0 ≡ digits_value 10 w)
+unfolding port_number_at
 port_takes text i r h =
     let n = bind_some (number_at 5 text i) _ r h in
     let low = cond_inner (nat_lt 0 n.0.0) _ r n.2 in
@@ -222,8 +223,8 @@ ends_taken : (rest : List ℕ) → Ends (has class.Digit) rest → Ends is_ascii
 ends_taken [] h = tt
 ends_taken (b ∷ rest) h = sym (digit_has b) ∙ h
 
-port_ends : (text : List ℕ) (i : ℕ) (r : ℕ × ℕ) → listen_port_at text i ≡ Some r → Ends is_ascii_digit (drop r.1 text)
-unfolding listen_port_at number_at run_end
+port_ends : (text : List ℕ) (i : ℕ) (r : ℕ × ℕ) → port_number_at text i ≡ Some r → Ends is_ascii_digit (drop r.1 text)
+unfolding port_number_at number_at run_end
 port_ends text i r h =
     let n = bind_some (number_at 5 text i) _ r h in
     let low = cond_inner (nat_lt 0 n.0.0) _ r n.2 in
@@ -250,8 +251,8 @@ address_takes : (text : List ℕ) (i : ℕ) (r : Listen × ℕ) → Takes text 0
 unfolding listen_address_at
 address_takes text i r udp h =
     let ip = bind_some (v4_at text i) _ r h in
-    let colon = bind_some (colon_end text ip.0.1) _ r ip.2 in
-    let port = bind_some (listen_port_at text colon.0) _ r colon.2 in
+    let colon = bind_some (byte_end COLON text ip.0.1) _ r ip.2 in
+    let port = bind_some (port_number_at text colon.0) _ r colon.2 in
     let v = v4_takes text i ip.0 ip.1 in
     let c = colon_takes text ip.0.1 colon.0 colon.1 in
     let p = port_takes text colon.0 port.0 port.1 in

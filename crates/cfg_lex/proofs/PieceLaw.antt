@@ -44,7 +44,7 @@ enough (suc n) (suc m) (c ∷ cs) a b = elim (cases_Bool (nat_le 1 (before 36 (c
   ]
 ]
 
--- the pieces behind the first one
+-- the pieces after the first one
 abbrev pub behind_first : List ℕ → Option (tree.Piece × ℕ) → Option (List tree.Piece)
 behind_first text None = None
 behind_first text (Some r) = in_front r.0 (pieces_of (drop r.1 text))

@@ -15,7 +15,7 @@ run_goes class text i lt h = let e = drop_more text i 0 lt in rw (e, h) (omega a
 pub run_all : (class : RunClass) (text : List ℕ) (i : ℕ) → length text ≤ i → i + prefix_len (class_has class) (drop i text) ≡ i
 run_all class text i le = rw (drop_all i text le) (omega arith)
 
--- what stands at a place, and behind the end
+-- what stands at a place, and after the end
 pub stands_in : (byte : ℕ) (text : List ℕ) (i : ℕ) → i < length text → begins_with byte (drop i text) ≡ (get_or text i 0 == byte)
 stands_in byte text i lt = let e = drop_more text i 0 lt in rw e refl
 

@@ -15,7 +15,7 @@ use Rattle.cfg_lex.proofs.ReadLaw.{Reads, token, ReadsToken, same_fault, same_to
 use Rattle.cfg_lex.proofs.Bytewise.{at_quote, no_slash}
 use Rattle.cfg_lex.proofs.QuoteLaw.{quote_again, quote_taken, open_again, open_taken, known_again, known_taken, bad_again, bad_taken, meant_again}
 
--- a closed string and what stands behind it, without the first quote
+-- a closed string and what stands after it, without the first quote
 closed_text : (q : ℕ) (ps : List StringPart) (rest : List ℕ) → (all_written ps ++ q ∷ []) ++ rest ≡ all_written ps ++ q ∷ rest
 closed_text q ps rest = append_assoc (all_written ps) (q ∷ []) rest
 

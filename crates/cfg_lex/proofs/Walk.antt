@@ -37,7 +37,7 @@ abbrev in_front : Token → Answer → Answer
 in_front t (Ok ts) = Ok (t ∷ ts)
 in_front t (Err f) = Err f
 
--- the answer behind what is found at the place i
+-- the answer after what is found at the place i
 abbrev behind_found : (ℕ → TokenContext → Answer) → List ℕ → ℕ → TokenContext → Result Found Wrong → Answer
 behind_found more text i context (Ok (found.Gap n)) = more (i + n) context
 behind_found more text i context (Ok (found.Token s n)) =
@@ -96,7 +96,7 @@ token_some _ _ _ _ (block_name w rest some is) = some
 token_some _ _ _ _ (listen w rest l is) = listen_some w rest l is
 token_some _ _ _ _ (ordinary context w rest x none is) = ordinary_some w rest x is
 
--- a walk goes on behind a gap, and behind a token
+-- a walk goes on after a gap, and after a token
 walk_gap : (n : ℕ) (text : List ℕ) (i : ℕ) (context : TokenContext) (w rest : List ℕ) → drop i text ≡ w ++ rest → IsBlankOrComment (begins_line text i) w rest →
     walk (suc n) text i context ≡ walk n text (i + length w) context
 walk_gap n text i context w rest e g =

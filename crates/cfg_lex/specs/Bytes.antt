@@ -5,6 +5,8 @@ use Rattle.sip_words.specs.Bytes.{is_one_of}
 use Rattle.cfg_tree.specs.Variables.{goes_on}
 use Rattle.cfg_lex.specs.declared.bytes.RunClass.{RunClass}
 use Rattle.cfg_lex.specs.declared.bytes.RunClass.TheVariants.{NameByte, Digit, BlockName, Other}
+use Rattle.sip_words.specs.ByteNames.{DQUOTE}
+use Rattle.cfg_lex.specs.ByteNames.{QUOTE}
 
 -- SP, HTAB, CR, LF
 abbrev pub is_blank : ℕ → Bool
@@ -15,7 +17,7 @@ abbrev pub is_block_byte : ℕ → Bool
 is_block_byte b = is_ascii_alphanumeric b || is_one_of (codes "_-:.") b
 
 abbrev pub is_quote : ℕ → Bool
-is_quote b = (b == 34) || (b == 39)
+is_quote b = (b == DQUOTE) || (b == QUOTE)
 
 abbrev pub class_has : RunClass → ℕ → Bool
 class_has NameByte = goes_on

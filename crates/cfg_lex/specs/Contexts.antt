@@ -10,25 +10,25 @@ use Rattle.cfg_tree.specs.declared.token.Mark.TheVariants as mark
 use Rattle.cfg_lex.specs.declared.context.TokenContext.{TokenContext}
 use Rattle.cfg_lex.specs.declared.context.TokenContext.TheVariants.{Plain, BehindListen, BehindRoute, Address, BlockName}
 
--- behind the name `listen`
+-- after the name `listen`
 abbrev pub behind_name : List ℕ → TokenContext
 behind_name name = if bytes_eq name (codes "listen") then BehindListen else Plain
 
--- behind the word `route`
+-- after the word `route`
 abbrev pub context_behind_keyword : keyword.Keyword → TokenContext
 context_behind_keyword word.Route = BehindRoute
 context_behind_keyword _ = Plain
 
--- a block's name may stand behind `[`
+-- a block's name may stand after `[`
 abbrev pub context_behind_mark : TokenContext → marks.Mark → TokenContext
 context_behind_mark _ mark.OpenSquare = BlockName
--- and behind the `(` that follows `route`
+-- and after the `(` that follows `route`
 context_behind_mark BehindRoute mark.OpenRound = BlockName
--- LISTEN may stand behind the name `listen` and `=`
+-- LISTEN may stand after the name `listen` and `=`
 context_behind_mark BehindListen mark.Assign = Address
 context_behind_mark _ _ = Plain
 
--- what is allowed behind a token, by what was allowed at it
+-- what is allowed after a token, by what was allowed at it
 unfoldable pub behind : TokenContext → Lexeme → TokenContext
 behind context (lexeme.Name name) = behind_name name
 behind context (lexeme.Keyword k) = context_behind_keyword k

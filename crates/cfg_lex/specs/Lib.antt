@@ -1,3 +1,4 @@
+pub mod ByteNames
 pub mod Bytes
 pub mod Contexts
 pub mod Comments

@@ -29,23 +29,28 @@ use Rattle.cfg_lex.specs.Marks.{two_byte_mark, one_byte_mark}
 use Rattle.cfg_lex.specs.Strings.{before_quote, bad_escape, unescaped}
 use Rattle.cfg_lex.specs.Variables.{form_at, variable_of, is_cut_off, FormIsWithin}
 use Rattle.cfg_lex.specs.Listens.{listen_at}
+use Rattle.sip_words.specs.ByteNames.{LF, SLASH}
+use Rattle.cfg_tree.specs.ByteNames.{DOLLAR}
+use Rattle.cfg_lex.specs.ByteNames.{HASH, STAR}
+use Rattle.cfg_tree.specs.RefusalKinds.{refusal_number}
+use Rattle.cfg_tree.specs.declared.refusal_kind.RefusalKind.TheVariants as refusal
 
 abbrev pub bad : ℕ → ℕ → Result Found Wrong
 bad from to = Err (BadByte from to)
 
--- behind a `#`
+-- after a `#`
 unfoldable pub hash_at : Bool → List ℕ → Result Found Wrong
-hash_at fresh text = if is_no_comment fresh text then bad 0 1 else Ok (Gap (1 + before 10 text))
+hash_at fresh text = if is_no_comment fresh text then bad 0 1 else Ok (Gap (1 + before LF text))
 
 abbrev pub comment_to : Option ℕ → Result Found Wrong
 comment_to None = Err Unclosed
 comment_to (Some k) = Ok (Gap (k + 4))
 
--- behind a `/`
+-- after a `/`
 unfoldable pub slash_at : List ℕ → Result Found Wrong
 slash_at text =
-    if begins_with 47 text then Ok (Gap (2 + before 10 (drop 1 text)))
-    else if begins_with 42 text then comment_to (before_end (drop 1 text)) else Ok (Token (shape.Mark Divide) 1)
+    if begins_with SLASH text then Ok (Gap (2 + before LF (drop 1 text)))
+    else if begins_with STAR text then comment_to (before_end (drop 1 text)) else Ok (Token (shape.Mark Divide) 1)
 
 abbrev pub word_shape : Option keyword.Keyword → TokenShape
 word_shape None = shape.Name
@@ -69,7 +74,7 @@ abbrev pub string_to : List ℕ → Option ℕ → Result Found Wrong
 string_to text None = Err Unclosed
 string_to text (Some k) = string_of k (bad_escape (take k text))
 
--- behind a quote
+-- after a quote
 unfoldable pub string_at : ℕ → List ℕ → Result Found Wrong
 string_at q text = string_to text (before_quote q text)
 
@@ -77,7 +82,7 @@ abbrev pub variable_to : List ℕ → Option VariableForm → Result Found Wrong
 variable_to text None = if is_cut_off text then Err Unclosed else bad 0 1
 variable_to text (Some f) = Ok (Token (shape.Variable f) (f.len + 1))
 
--- behind a `$`
+-- after a `$`
 unfoldable pub dollar_at : List ℕ → Result Found Wrong
 dollar_at text = variable_to text (form_at text)
 
@@ -99,12 +104,12 @@ unfoldable pub ordinary_at : Bool → List ℕ → Result Found Wrong
 ordinary_at fresh [] = bad 0 1
 ordinary_at fresh (c ∷ text) =
     if is_blank c then Ok (Gap 1)
-    else if c == 35 then hash_at fresh text
-    else if c == 47 then slash_at text
+    else if c == HASH then hash_at fresh text
+    else if c == SLASH then slash_at text
     else if begins_name c then word_token_at (c ∷ text)
     else if is_ascii_digit c then number_token_at (c ∷ text)
     else if is_quote c then string_at c text
-    else if c == 36 then dollar_at text
+    else if c == DOLLAR then dollar_at text
     else mark_token_at c text
 
 abbrev pub block_name_or : ℕ → Result Found Wrong → Result Found Wrong
@@ -133,9 +138,9 @@ lexeme_of text (shape.Variable f) n = lexeme.Variable (variable_of (drop 1 text)
 lexeme_of text (shape.Listen l) n = lexeme.Listen l
 lexeme_of text shape.BlockName n = lexeme.BlockName (take n text)
 
--- a line begins at this place: at the text's beginning, and behind an LF
+-- a line begins at this place: at the text's beginning, and after an LF
 unfoldable pub begins_line : List ℕ → ℕ → Bool
-begins_line text i = (i == 0) || is_the 10 (slice_get text (i - 1))
+begins_line text i = (i == 0) || is_the LF (slice_get text (i - 1))
 
 -- a shape of this length lies in so many bytes
 abbrev pub IsWhole : ℕ → TokenShape → ℕ → Type 0
@@ -159,5 +164,5 @@ WrongEndsIn len Unclosed = Unit {0}
 
 -- the refusal of what stands at the place i of a text of this length
 abbrev pub refused : ℕ → ℕ → Wrong → ScriptFault
-refused i len (BadByte from to) = Refused 1 (record { from = i + from; to = i + to })
-refused i len Unclosed = Refused 2 (record { from = i; to = len })
+refused i len (BadByte from to) = Refused (refusal_number refusal.BadByte) (record { from = i + from; to = i + to })
+refused i len Unclosed = Refused (refusal_number refusal.Unclosed) (record { from = i; to = len })

@@ -1,4 +1,4 @@
--- The tokens of a script, and its first fault. Each class of token is told by its bytes and by what stands behind it.
+-- The tokens of a script, and its first fault. Each class of token is told by its bytes and by what stands after it.
 use Rattle.std.specs.Prelude.{◌≡◌, ◌≢◌, ℕ, ◌+◌, ◌<◌, ◌≤◌, ◌==◌, ◌⊎◌, pos, Bool, true, false, not, map, List, [], ◌∷◌, ◌++◌, length, drop, Some, None, codes}
 use Rattle.std.specs.List.{flat_map, AllByRecursion}
 use Rattle.std.specs.Char.{is_ascii_digit}
@@ -29,6 +29,11 @@ use Rattle.cfg_lex.specs.Numbers.{greatest_number}
 use Rattle.cfg_lex.specs.Strings.{is_escape, escaped}
 use Rattle.cfg_lex.specs.Variables.{is_cut_off}
 use Rattle.cfg_lex.specs.Shapes.{begins_line}
+use Rattle.sip_words.specs.ByteNames.{LF, SLASH, COLON, BACKSLASH}
+use Rattle.cfg_tree.specs.ByteNames.{DOLLAR}
+use Rattle.cfg_lex.specs.ByteNames.{HASH, STAR}
+use Rattle.cfg_tree.specs.RefusalKinds.{refusal_number}
+use Rattle.cfg_tree.specs.declared.refusal_kind.RefusalKind.TheVariants as refusal
 
 -- ---- bytes
 
@@ -37,42 +42,42 @@ abbrev pub Ends : (ℕ → Bool) → List ℕ → Type 0
 Ends p [] = Unit {0}
 Ends p (b ∷ rest) = p b ≡ false
 
--- w is a run of such bytes, and of greatest length where this stands behind it
+-- w is a run of such bytes, and of greatest length where this stands after it
 pub record IsLongestRun (p : ℕ → Bool) (w rest : List ℕ) : Type 0 where
   pub all : AllByRecursion (λ b. p b ≡ true) w
   pub ends : Ends p rest
 
 -- a run to the line's end
 abbrev pub RunsToLineEnd : List ℕ → List ℕ → Type 0
-RunsToLineEnd w rest = IsLongestRun (λ b. not (b == 10)) w rest
+RunsToLineEnd w rest = IsLongestRun (λ b. not (b == LF)) w rest
 
 -- no `*/` stands in these bytes
 abbrev pub NoEnd : List ℕ → Type 0
-NoEnd text = (front back : List ℕ) → text ≢ front ++ 42 ∷ 47 ∷ back
+NoEnd text = (front back : List ℕ) → text ≢ front ++ STAR ∷ SLASH ∷ back
 
 -- ---- what stands between tokens
 
--- w parts tokens, where this stands behind it. `fresh`: it begins a line.
+-- w parts tokens, where this stands after it. `fresh`: it begins a line.
 pub data IsBlankOrComment : (fresh : Bool) (w rest : List ℕ) → Type 0 where
   -- SP, HTAB, CR or LF
   blank : (fresh : Bool) (b : ℕ) (rest : List ℕ) → is_blank b ≡ true → IsBlankOrComment fresh (b ∷ []) rest
   -- # to the line's end, but for `#!` at a line's beginning without one of the words with which it is a comment
-  hash : (fresh : Bool) (w rest : List ℕ) → RunsToLineEnd w rest → is_no_comment fresh (w ++ rest) ≡ false → IsBlankOrComment fresh (35 ∷ w) rest
+  hash : (fresh : Bool) (w rest : List ℕ) → RunsToLineEnd w rest → is_no_comment fresh (w ++ rest) ≡ false → IsBlankOrComment fresh (HASH ∷ w) rest
   -- // to the line's end
-  slashes : (fresh : Bool) (w rest : List ℕ) → RunsToLineEnd w rest → IsBlankOrComment fresh (47 ∷ 47 ∷ w) rest
+  slashes : (fresh : Bool) (w rest : List ℕ) → RunsToLineEnd w rest → IsBlankOrComment fresh (SLASH ∷ SLASH ∷ w) rest
   -- /* to the first */
-  bracketed : (fresh : Bool) (w rest : List ℕ) → NoEnd (w ++ 42 ∷ []) → IsBlankOrComment fresh (47 ∷ 42 ∷ w ++ 42 ∷ 47 ∷ []) rest
+  bracketed : (fresh : Bool) (w rest : List ℕ) → NoEnd (w ++ STAR ∷ []) → IsBlankOrComment fresh (SLASH ∷ STAR ∷ w ++ STAR ∷ SLASH ∷ []) rest
 
 -- ---- strings
 
--- a byte that stands for itself, or one behind a backslash
+-- a byte that stands for itself, or one after a backslash
 pub data StringPart : Type 0 where
   Itself : ℕ → StringPart
   Escaped : ℕ → StringPart
 
 abbrev pub written : StringPart → List ℕ
 written (Itself b) = b ∷ []
-written (Escaped b) = 92 ∷ b ∷ []
+written (Escaped b) = BACKSLASH ∷ b ∷ []
 
 -- the byte that it stands for
 abbrev pub meant : StringPart → ℕ
@@ -81,7 +86,7 @@ meant (Escaped b) = escaped b
 
 -- neither the quote nor a backslash stands for itself
 abbrev pub IsPart : ℕ → StringPart → Type 0
-IsPart q (Itself b) = (b ≢ q) × (b ≢ 92)
+IsPart q (Itself b) = (b ≢ q) × (b ≢ BACKSLASH)
 IsPart q (Escaped b) = Unit {0}
 
 -- \\ \" \' \n \r \t
@@ -98,10 +103,10 @@ in_quotes q ps = q ∷ all_written ps ++ q ∷ []
 
 -- ---- tokens
 
--- no longer operator begins with this byte, where this stands behind it, and no comment
+-- no longer operator begins with this byte, where this stands after it, and no comment
 abbrev pub IsWholeMark : ℕ → List ℕ → Type 0
 IsWholeMark a [] = Unit {0}
-IsWholeMark a (b ∷ rest) = (two_byte_mark a b ≡ None) × (a ≡ 47 → (b ≢ 47) × (b ≢ 42))
+IsWholeMark a (b ∷ rest) = (two_byte_mark a b ≡ None) × (a ≡ SLASH → (b ≢ SLASH) × (b ≢ STAR))
 
 -- a word: a letter or `_`, and letters, digits and `_`
 abbrev pub IsNamed : List ℕ → List ℕ → Type 0
@@ -112,7 +117,7 @@ IsNamed (b ∷ w) rest = (begins_name b ≡ true) × IsLongestRun goes_on w rest
 abbrev pub AreDigits : List ℕ → List ℕ → Type 0
 AreDigits w rest = (0 < length w) × IsLongestRun is_ascii_digit w rest
 
--- w is this token, where this stands behind it
+-- w is this token, where this stands after it
 pub data IsOrdinary : (w rest : List ℕ) → Lexeme → Type 0 where
   name : (w rest : List ℕ) → IsNamed w rest → keyword_of_word w ≡ None → IsOrdinary w rest (lexeme.Name w)
   word : (w rest : List ℕ) (k : keyword.Keyword) → IsNamed w rest → keyword_of_word w ≡ Some k → IsOrdinary w rest (lexeme.Keyword k)
@@ -124,7 +129,7 @@ pub data IsOrdinary : (w rest : List ℕ) → Lexeme → Type 0 where
   string : (q : ℕ) (ps : List StringPart) (rest : List ℕ) → is_quote q ≡ true → AllByRecursion (IsPart q) ps → AllByRecursion IsKnown ps →
       IsOrdinary (in_quotes q ps) rest (lexeme.String (map meant ps))
   variable : (w rest : List ℕ) (v : Variable) → variable_at (w ++ rest) ≡ Some (v, length w) →
-      IsOrdinary (36 ∷ w) rest (lexeme.Variable v)
+      IsOrdinary (DOLLAR ∷ w) rest (lexeme.Variable v)
 
 -- one to five digits that write a number 1 to 65535
 pub record IsListenPort (w : List ℕ) : Type 0 where
@@ -133,14 +138,14 @@ pub record IsListenPort (w : List ℕ) : Type 0 where
   pub low : 0 < digits_value 10 w
   pub high : digits_value 10 w < 65536
 
--- udp:IP:PORT, and no digit behind it
+-- udp:IP:PORT, and no digit after it
 pub record IsListen (w rest : List ℕ) (l : Listen) : Type 0 where
   pub a : List ℕ
   pub b : List ℕ
   pub c : List ℕ
   pub d : List ℕ
   pub port : List ℕ
-  pub whole : w ≡ codes "udp:" ++ (host (Numbers a b c d) ++ 58 ∷ port)
+  pub whole : w ≡ codes "udp:" ++ (host (Numbers a b c d) ++ COLON ∷ port)
   pub octets : AreOctets a b c d
   pub is_port : IsListenPort port
   pub ends : Ends is_ascii_digit rest
@@ -168,11 +173,11 @@ pub data IsToken : TokenContext → (w rest : List ℕ) → Lexeme → Type 0 wh
 -- with this byte nothing begins: no blank, comment, word, number, string, variable, operator or bracket
 pub record IsStray (b : ℕ) (rest : List ℕ) : Type 0 where
   pub blank : is_blank b ≡ false
-  pub hash : b ≢ 35
+  pub hash : b ≢ HASH
   pub word : begins_name b ≡ false
   pub digit : is_ascii_digit b ≡ false
   pub quote : is_quote b ≡ false
-  pub dollar : b ≢ 36
+  pub dollar : b ≢ DOLLAR
   pub short : one_byte_mark b ≡ None
   pub long : (c : ℕ) (more : List ℕ) → rest ≡ c ∷ more → two_byte_mark b c ≡ None
 
@@ -180,19 +185,19 @@ pub record IsStray (b : ℕ) (rest : List ℕ) : Type 0 where
 pub data IsFault : (fresh : Bool) (text : List ℕ) (kind from to : ℕ) → Type 0 where
   -- a string to whose end the text doesn't go
   open_string : (fresh : Bool) (q : ℕ) (ps : List StringPart) (text : List ℕ) → is_quote q ≡ true → AllByRecursion (IsPart q) ps →
-      (text ≡ q ∷ all_written ps) ⊎ (text ≡ q ∷ all_written ps ++ 92 ∷ []) → IsFault fresh text 2 0 (length text)
-  open_comment : (fresh : Bool) (w : List ℕ) → NoEnd w → IsFault fresh (47 ∷ 42 ∷ w) 2 0 (length w + 2)
-  open_variable : (fresh : Bool) (w : List ℕ) → variable_at w ≡ None → is_cut_off w ≡ true → IsFault fresh (36 ∷ w) 2 0 (length w + 1)
+      (text ≡ q ∷ all_written ps) ⊎ (text ≡ q ∷ all_written ps ++ BACKSLASH ∷ []) → IsFault fresh text (refusal_number refusal.Unclosed) 0 (length text)
+  open_comment : (fresh : Bool) (w : List ℕ) → NoEnd w → IsFault fresh (SLASH ∷ STAR ∷ w) (refusal_number refusal.Unclosed) 0 (length w + 2)
+  open_variable : (fresh : Bool) (w : List ℕ) → variable_at w ≡ None → is_cut_off w ≡ true → IsFault fresh (DOLLAR ∷ w) (refusal_number refusal.Unclosed) 0 (length w + 1)
   -- the first escape of a string that isn't one, with its backslash
   bad_escape : (fresh : Bool) (q : ℕ) (ps more : List StringPart) (b : ℕ) (rest : List ℕ) → is_quote q ≡ true →
       AllByRecursion (IsPart q) (ps ++ Escaped b ∷ more) → AllByRecursion IsKnown ps → is_escape b ≡ false →
-      IsFault fresh (in_quotes q (ps ++ Escaped b ∷ more) ++ rest) 1 (length (all_written ps) + 1) (length (all_written ps) + 3)
+      IsFault fresh (in_quotes q (ps ++ Escaped b ∷ more) ++ rest) (refusal_number refusal.BadByte) (length (all_written ps) + 1) (length (all_written ps) + 3)
   large_number : (fresh : Bool) (w rest : List ℕ) → AreDigits w rest → greatest_number < digits_value 10 w →
-      IsFault fresh (w ++ rest) 1 0 (length w)
+      IsFault fresh (w ++ rest) (refusal_number refusal.BadByte) 0 (length w)
   -- `#!` at a line's beginning, without one of the words with which it is a comment
-  stray_hash : (fresh : Bool) (w : List ℕ) → is_no_comment fresh w ≡ true → IsFault fresh (35 ∷ w) 1 0 1
-  stray_dollar : (fresh : Bool) (w : List ℕ) → variable_at w ≡ None → is_cut_off w ≡ false → IsFault fresh (36 ∷ w) 1 0 1
-  stray_byte : (fresh : Bool) (b : ℕ) (rest : List ℕ) → IsStray b rest → IsFault fresh (b ∷ rest) 1 0 1
+  stray_hash : (fresh : Bool) (w : List ℕ) → is_no_comment fresh w ≡ true → IsFault fresh (HASH ∷ w) (refusal_number refusal.BadByte) 0 1
+  stray_dollar : (fresh : Bool) (w : List ℕ) → variable_at w ≡ None → is_cut_off w ≡ false → IsFault fresh (DOLLAR ∷ w) (refusal_number refusal.BadByte) 0 1
+  stray_byte : (fresh : Bool) (b : ℕ) (rest : List ℕ) → IsStray b rest → IsFault fresh (b ∷ rest) (refusal_number refusal.BadByte) 0 1
 
 -- ---- the text
 
@@ -226,9 +231,9 @@ pub record TokensOf (text : List ℕ) (ts : List Token) : Type 0 where
   pub short : length text ≤ longest
   pub tokens : HasTokens text 0 Plain ts
 
--- This is the first fault of the text: kind 13 from the greatest length on, else the first of kind 1 or 2.
+-- This is the first fault of the text: TooLarge from the greatest length on, else the first BadByte or Unclosed.
 pub data FaultOf : List ℕ → ScriptFault → Type 0 where
-  too_long : (text : List ℕ) → longest < length text → FaultOf text (Refused 13 (place_between longest (length text)))
+  too_long : (text : List ℕ) → longest < length text → FaultOf text (Refused (refusal_number refusal.TooLarge) (place_between longest (length text)))
   inside : (text : List ℕ) (f : ScriptFault) → length text ≤ longest → FirstFault text 0 Plain f → FaultOf text f
 
 -- Whatever is given in place of tokens is the text's first fault, or out of memory.

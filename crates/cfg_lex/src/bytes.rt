@@ -8,7 +8,7 @@ ghost use Rattle.cfg_lex.specs.Bytes.{is_blank, is_quote, class_has};
 /// A class of bytes of which the language has runs.
 #[derive(Clone, Copy, Debug, PartialEq, Eq)]
 pub enum RunClass {
-    /// A letter, a digit or `_`: the bytes of a name behind its first one.
+    /// A letter, a digit or `_`: the bytes of a name after its first one.
     NameByte,
     Digit,
     /// A letter, a digit, or one of `_-:.`: the bytes of a block's name.

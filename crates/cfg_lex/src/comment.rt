@@ -8,7 +8,7 @@ use crate::bytes::{RunClass, begins_at, run_len};
 use crate::shape::{Found, TokenShape, Wrong};
 use cfg_tree::Mark;
 
-/// Whether one of the words KAMAILIO, OPENSER, SER, MAXCOMPAT, ALL stands here, and no letter, digit or `_` behind it.
+/// Whether one of the words KAMAILIO, OPENSER, SER, MAXCOMPAT, ALL stands here, and no letter, digit or `_` after it.
 #[tactic(auto, unfolding(crate::specs::Comments::names_dialect))]
 fn names_dialect(text: &[u8]) -> bool
     ensures { result ≡ names_dialect text.now }
@@ -21,7 +21,7 @@ fn names_dialect(text: &[u8]) -> bool
         || word == b"ALL".as_slice()
 }
 
-/// Whether what stands behind a `#` makes it no comment: at a line's beginning a `!`, and none of these words.
+/// Whether what stands after a `#` makes it no comment: at a line's beginning a `!`, and none of these words.
 #[tactic(auto, unfolding(crate::specs::Comments::is_no_comment))]
 fn is_no_comment(text: &[u8], fresh: bool) -> bool
     ensures { result ≡ is_no_comment fresh text.now }
@@ -29,7 +29,7 @@ fn is_no_comment(text: &[u8], fresh: bool) -> bool
     fresh && begins_at(text, 0, b'!') && !names_dialect(&text[1..])
 }
 
-/// What stands behind a `#`. `fresh`: the `#` begins a line.
+/// What stands after a `#`. `fresh`: the `#` begins a line.
 #[tactic(auto, unfolding(crate::specs::Shapes::hash_at))]
 pub fn hash_at(text: &[u8], fresh: bool) -> Result<Found, Wrong>
     ensures value { result ≡ hash_at fresh text.now }
@@ -67,7 +67,7 @@ fn before_end(text: &[u8]) -> Option<usize>
     None
 }
 
-/// What stands behind a `/`.
+/// What stands after a `/`.
 #[tactic(auto, unfolding(crate::specs::Shapes::slash_at))]
 pub fn slash_at(text: &[u8]) -> Result<Found, Wrong>
     ensures value { result ≡ slash_at text.now }

@@ -5,7 +5,7 @@ ghost use Rattle.cfg_lex.specs.Contexts.{behind};
 
 use cfg_tree::{Keyword, Lexeme, Mark};
 
-/// What the last one or two tokens were. LISTEN and the names of blocks are tokens behind some only.
+/// What the last one or two tokens were. LISTEN and the names of blocks are tokens after some only.
 #[derive(Clone, Copy, Debug, PartialEq, Eq)]
 pub enum TokenContext {
     /// Any others, or none.
@@ -21,7 +21,7 @@ pub enum TokenContext {
 }
 
 impl TokenContext {
-    /// What is allowed behind this token.
+    /// What is allowed after this token.
     #[tactic(auto, unfolding(crate::specs::Contexts::behind))]
     pub fn behind(self, lexeme: &Lexeme) -> TokenContext
         ensures { result ≡ behind self lexeme.now }

@@ -16,7 +16,7 @@ use cfg_tree::Lexeme;
 use pv_values::Text;
 use std::alloc::{AllocError, Global};
 
-/// The variable behind a `$`.
+/// The variable after a `$`.
 #[tactic(auto, unfolding(crate::specs::Shapes::dollar_at))]
 fn dollar_at(text: &[u8]) -> Result<Found, Wrong>
     ensures value { result ≡ dollar_at text.now }

@@ -1,7 +1,7 @@
 //! The tokens of a script.
 //!
 //! [`lex`] reads a text into its tokens, each with its place, or refuses it by its first fault. What the tokens of a
-//! text are is `specs/Tokens.antt`: each class of token by its bytes and by what stands behind it, and the text as
+//! text are is `specs/Tokens.antt`: each class of token by its bytes and by what stands after it, and the text as
 //! tokens with blanks and comments between them. [`pieces`] reads the variables in a text that is expanded.
 #![tactic(auto)]
 
@@ -33,8 +33,15 @@ use std::alloc::Global;
 
 /// The tokens of the text, each with its place.
 ///
-/// Refused are, by the first fault: a text over 1 MiB (1,048,576 bytes), with kind 13 and the place of what is too
-/// much; else bytes with which no token begins (kind 1), and what the text ends before the end of (kind 2).
+/// Refused are, by the first fault: a text over 1 MiB (1,048,576 bytes), as `TooLarge` at the place of what is too
+/// much; else bytes with which no token begins, as `BadByte`, and what the text ends before the end of, as `Unclosed`.
+///
+/// ```
+/// let tokens = lex(alloc, b"exit;")?;
+/// tokens[0]; // the word `exit`, from 0 to 4
+/// tokens[1]; // the mark `;`, from 4 to 5
+/// lex(alloc, b"exit @"); // refused: BadByte, from 5 to 6
+/// ```
 pub fn lex(alloc: Global, text: &[u8]) -> Result<Vec<Token>, ScriptFault>
     // What is given is the text's tokens.
     ensures found { IfOk result (λ v. TokensOf text.now v.items) }

@@ -61,7 +61,7 @@ fn one_byte_mark(a: u8) -> Option<Mark>
     }
 }
 
-/// The operator or bracket that begins with this byte, the longest; behind it stands this text.
+/// The operator or bracket that begins with this byte, the longest; after it stands this text.
 #[tactic(auto, unfolding(crate::specs::Shapes::mark_token_at))]
 pub fn mark_token_at(first: u8, text: &[u8]) -> Result<Found, Wrong>
     ensures value { result ≡ mark_token_at first text.now }

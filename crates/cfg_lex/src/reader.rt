@@ -7,7 +7,7 @@ ghost use Rattle.cfg_lex.specs.Tokens.{TokensOf, IsFaultOf};
 use crate::context::TokenContext;
 use crate::found::{begins_line, found_at, lexeme_of};
 use crate::shape::{Found, Wrong};
-use cfg_tree::Token;
+use cfg_tree::{RefusalKind, Token};
 use pv_values::{Place, ScriptFault};
 use std::alloc::Global;
 
@@ -23,14 +23,14 @@ fn refused(at: usize, len: usize, wrong: Wrong) -> ScriptFault
 {
     match wrong {
         Wrong::BadByte { from, to } => ScriptFault::Refused {
-            kind: 1,
+            kind: RefusalKind::BadByte.number(),
             at: Place {
                 from: at + from,
                 to: at + to,
             },
         },
         Wrong::Unclosed => ScriptFault::Refused {
-            kind: 2,
+            kind: RefusalKind::Unclosed.number(),
             at: Place { from: at, to: len },
         },
     }
@@ -43,7 +43,7 @@ pub fn tokens_in(alloc: Global, text: &[u8]) -> Result<Vec<Token>, ScriptFault>
 {
     if text.len() > LONGEST {
         return Err(ScriptFault::Refused {
-            kind: 13,
+            kind: RefusalKind::TooLarge.number(),
             at: Place {
                 from: LONGEST,
                 to: text.len(),

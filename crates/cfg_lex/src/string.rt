@@ -8,14 +8,14 @@ use crate::shape::{Found, TokenShape, Wrong};
 use pv_values::Text;
 use std::alloc::{AllocError, Global};
 
-/// Whether this byte may stand behind a backslash: `\\ \" \' \n \r \t`.
+/// Whether this byte may stand after a backslash: `\\ \" \' \n \r \t`.
 fn is_escape(b: u8) -> bool
     ensures { result ≡ is_escape b }
 {
     b"\\\"'nrt".contains(&b)
 }
 
-/// The byte that stands for the one behind a backslash.
+/// The byte that stands for the one after a backslash.
 fn escaped(b: u8) -> u8
     ensures { result ≡ escaped b }
 {
@@ -27,7 +27,7 @@ fn escaped(b: u8) -> u8
     }
 }
 
-/// How many bytes stand before the quote that closes a string. A backslash takes the byte behind it along.
+/// How many bytes stand before the quote that closes a string. A backslash takes the byte after it along.
 #[tactic(auto, using(crate::proofs::Quotes::quote_here, crate::proofs::Quotes::quote_pair, crate::proofs::Quotes::quote_later, crate::proofs::Quotes::quote_never))]
 fn before_quote(text: &[u8], quote: u8) -> Option<usize>
     ensures value { result ≡ before_quote quote text.now }
@@ -50,7 +50,7 @@ fn is_bad(b: u8, c: u8) -> bool
     b == b'\\' && !is_escape(c)
 }
 
-/// Where the first backslash stands behind which there is no escape.
+/// Where the first backslash stands after which there is no escape.
 #[tactic(auto, using(crate::proofs::Quotes::bad_here, crate::proofs::Quotes::bad_pair, crate::proofs::Quotes::bad_later, crate::proofs::Quotes::bad_never))]
 fn bad_escape(text: &[u8]) -> Option<usize>
     ensures value { result ≡ bad_escape text.now }
@@ -66,7 +66,7 @@ fn bad_escape(text: &[u8]) -> Option<usize>
     None
 }
 
-/// The string behind this quote.
+/// The string after this quote.
 #[tactic(auto, unfolding(crate::specs::Shapes::string_at))]
 pub fn string_at(quote: u8, text: &[u8]) -> Result<Found, Wrong>
     ensures value { result ≡ string_at quote text.now }

@@ -9,14 +9,14 @@ use cfg_tree::Variable;
 use pv_values::Text;
 use std::alloc::{AllocError, Global};
 
-/// Where a part of a variable stands behind its `$`, and how long it is.
+/// Where a part of a variable stands after its `$`, and how long it is.
 #[derive(Clone, Copy, Debug, PartialEq, Eq)]
 pub struct Stretch {
     pub from: usize,
     pub len: usize,
 }
 
-/// Where the parts of a variable stand, and how many bytes it takes behind its `$`.
+/// Where the parts of a variable stand, and how many bytes it takes after its `$`.
 #[derive(Clone, Copy, Debug, PartialEq, Eq)]
 pub struct VariableForm {
     pub name: Stretch,
@@ -57,7 +57,7 @@ fn further(part: Option<Stretch>) -> Option<Stretch>
     }
 }
 
-/// How many more brackets are open behind this byte.
+/// How many more brackets are open after this byte.
 fn opened_behind(byte: u8, opened: usize) -> usize
     requires { opened < 18446744073709551615 }
     ensures { result ≡ opened_behind byte opened }
@@ -123,7 +123,7 @@ fn named_form(text: &[u8]) -> Option<VariableForm>
     })
 }
 
-/// The variable in brackets whose name and inner text have this form, with `{TRANSFORMATION})` behind them.
+/// The variable in brackets whose name and inner text have this form, with `{TRANSFORMATION})` after them.
 #[tactic(auto, unfolding(crate::specs::Variables::form_with_transformation))]
 fn form_with_transformation(text: &[u8], form: VariableForm) -> Option<VariableForm>
     requires within { FormIsWithin (length text.now - 1) form }
@@ -149,7 +149,7 @@ fn form_with_transformation(text: &[u8], form: VariableForm) -> Option<VariableF
     })
 }
 
-/// The variable behind a `$`: NAME, NAME(INNER), (NAME{TRANSFORMATION}) or (NAME(INNER){TRANSFORMATION}).
+/// The variable after a `$`: NAME, NAME(INNER), (NAME{TRANSFORMATION}) or (NAME(INNER){TRANSFORMATION}).
 #[tactic(auto, unfolding(crate::specs::Variables::form_at))]
 pub fn form_at(text: &[u8]) -> Option<VariableForm>
     ensures value { result ≡ form_at text.now }
@@ -184,7 +184,7 @@ fn is_open_transformation(text: &[u8]) -> bool
     }
 }
 
-/// Whether behind `$(` the text ends inside the brackets.
+/// Whether after `$(` the text ends inside the brackets.
 #[tactic(auto, unfolding(crate::specs::Variables::is_open_bracket))]
 fn is_open_bracket(text: &[u8]) -> bool
     ensures { result ≡ is_open_bracket text.now }
@@ -198,7 +198,7 @@ fn is_open_bracket(text: &[u8]) -> bool
     }
 }
 
-/// Whether the text behind a `$` ends inside a variable's brackets.
+/// Whether the text after a `$` ends inside a variable's brackets.
 #[tactic(auto, unfolding(crate::specs::Variables::is_cut_off))]
 pub fn is_cut_off(text: &[u8]) -> bool
     ensures { result ≡ is_cut_off text.now }
@@ -221,7 +221,7 @@ fn part_of(alloc: Global, text: &[u8], part: Option<Stretch>) -> Result<Option<T
     }
 }
 
-/// The variable of this form, whose text behind the `$` is this.
+/// The variable of this form, whose text after the `$` is this.
 pub fn variable_of(alloc: Global, text: &[u8], form: VariableForm) -> Result<Variable, AllocError>
     requires { FormIsWithin (length text.now) form }
     ensures { IfOk result (λ v. v ≡ variable_of text.now form) }

@@ -8,7 +8,7 @@ ghost use Rattle.cfg_lex.specs.Shapes.{word_token_at, number_token_at, FitsIn, W
 use crate::bytes::{RunClass, name_len, run_len};
 use crate::shape::{Found, TokenShape, Wrong};
 use cfg_tree::Keyword;
-use pv_values::number::text_number;
+use pv_values::text_number;
 
 /// The keyword of expressions that this word is.
 #[tactic(auto, unfolding(crate::specs::Words::operand_word))]

@@ -15,13 +15,13 @@ use Rattle.cfg_parse.specs.Reader.{Reader, ◌>>=◌, ◌>>◌, ◌<$>◌, pure,
 
 -- ---- one token
 
-abbrev pub number_in : Lexeme → Place → Option ℤ
-number_in (lexeme.Number (pos n)) at = Some (pos n)
-number_in _ at = None
+abbrev pub number_token : Lexeme → Place → Option ℤ
+number_token (lexeme.Number (pos n)) at = Some (pos n)
+number_token _ at = None
 
-abbrev pub string_in : Lexeme → Place → Option Word
-string_in (lexeme.String s) at = Some (record { text = s; at = at })
-string_in _ at = None
+abbrev pub string_token : Lexeme → Place → Option Word
+string_token (lexeme.String s) at = Some (record { text = s; at = at })
+string_token _ at = None
 
 abbrev pub name_in : Lexeme → Place → Option Word
 name_in (lexeme.Name s) at = Some (record { text = s; at = at })
@@ -32,29 +32,29 @@ block_name_in (lexeme.BlockName s) at = Some (record { text = s; at = at })
 block_name_in _ at = None
 
 -- BNAME | STRING
-abbrev pub target_in : Lexeme → Place → Option Word
-target_in (lexeme.BlockName s) at = Some (record { text = s; at = at })
-target_in (lexeme.String s) at = Some (record { text = s; at = at })
-target_in _ at = None
+abbrev pub target_token : Lexeme → Place → Option Word
+target_token (lexeme.BlockName s) at = Some (record { text = s; at = at })
+target_token (lexeme.String s) at = Some (record { text = s; at = at })
+target_token _ at = None
 
 abbrev pub variable_in : Lexeme → Place → Option RawVariable
 variable_in (lexeme.Variable v) at = Some (record { variable = v; at = at })
 variable_in _ at = None
 
 unfoldable pub number : Reader ℤ
-number = one number_in
+number = one number_token
 
 unfoldable pub string : Reader Word
-string = one string_in
+string = one string_token
 
 unfoldable pub name : Reader Word
 name = one name_in
 
-unfoldable pub block_name : Reader Word
-block_name = one block_name_in
+unfoldable pub read_block_name : Reader Word
+read_block_name = one block_name_in
 
 unfoldable pub target : Reader Word
-target = one target_in
+target = one target_token
 
 unfoldable pub variable : Reader RawVariable
 variable = one variable_in
@@ -71,7 +71,7 @@ arg_by _ = arg.Variable <$> variable
 unfoldable pub argument : Reader RawArg
 argument = λ ts. arg_by (first ts) ts
 
--- { "," arg }, behind those before
+-- { "," arg }, after those before
 unfoldable pub more_arguments : List RawArg → Reader (List RawArg)
 more_arguments = many (behind_mark mark.Comma argument)
 
@@ -88,8 +88,8 @@ arguments = do
 -- ---- calls
 
 -- NAME "(" [ arg { "," arg } ] ")"
-unfoldable pub function_call : Reader RawCall
-function_call = do
+unfoldable pub read_function_call : Reader RawCall
+read_function_call = do
   w ← name
   mark_of mark.OpenRound
   args ← arguments
@@ -106,7 +106,7 @@ route_call = do
 
 abbrev pub call_by : Option Lexeme → Reader RawCall
 call_by (Some (lexeme.Keyword word_is.Route)) = route_call
-call_by _ = function_call
+call_by _ = read_function_call
 
 unfoldable pub call_of : Reader RawCall
 call_of = λ ts. call_by (first ts) ts

@@ -60,12 +60,12 @@ abbrev pub linked_by : Reader RawExpr → Option BinOp → Reader (Option (BinOp
 linked_by operand None = pure None
 linked_by operand (Some op) = pass >> (λ e. Some (op, e)) <$> operand
 
-abbrev pub linked : (Option Lexeme → Option BinOp) → Reader RawExpr → Reader (Option (BinOp × RawExpr))
-linked operator operand = λ ts. linked_by operand (operator (first ts)) ts
+abbrev pub read_link : (Option Lexeme → Option BinOp) → Reader RawExpr → Reader (Option (BinOp × RawExpr))
+read_link operator operand = λ ts. linked_by operand (operator (first ts)) ts
 
--- an operand behind `&&` or `||`, if it comes next
-abbrev pub joined : (Option Lexeme → Bool) → Reader RawExpr → Reader (Option RawExpr)
-joined test operand = λ ts. (if test (first ts) then pass >> Some <$> operand else pure None) ts
+-- an operand after `&&` or `||`, if it comes next
+abbrev pub read_joined : (Option Lexeme → Bool) → Reader RawExpr → Reader (Option RawExpr)
+read_joined test operand = λ ts. (if test (first ts) then pass >> Some <$> operand else pure None) ts
 
 -- an operand alone is itself
 abbrev pub chain : RawExpr → List (BinOp × RawExpr) → RawExpr
@@ -86,9 +86,9 @@ is_equal_in (lexeme.Mark mark.Equal) at = Some true
 is_equal_in (lexeme.Mark mark.NotEqual) at = Some false
 is_equal_in _ at = None
 
--- "uri" ("==" | "!=") "myself"
-unfoldable pub myself : Reader RawExpr
-myself = do
+-- "uri" ("==" | "!=") "read_myself"
+unfoldable pub read_myself : Reader RawExpr
+read_myself = do
   keyword_of word_is.Uri
   is ← one is_equal_in
   keyword_of word_is.Myself
@@ -98,7 +98,7 @@ myself = do
 module _ (unary : Reader RawExpr) where
   -- mul = un { ("*" | "/" | "mod") un }
   unfoldable pub more_factors : List (BinOp × RawExpr) → Reader (List (BinOp × RawExpr))
-  more_factors = many (linked factor_operator unary)
+  more_factors = many (read_link factor_operator unary)
 
   unfoldable pub product : Reader RawExpr
   product = do
@@ -108,7 +108,7 @@ module _ (unary : Reader RawExpr) where
 
   -- sum = mul { ("+" | "-") mul }
   unfoldable pub more_terms : List (BinOp × RawExpr) → Reader (List (BinOp × RawExpr))
-  more_terms = many (linked term_operator product)
+  more_terms = many (read_link term_operator product)
 
   unfoldable pub sum : Reader RawExpr
   sum = do
@@ -127,9 +127,9 @@ module _ (unary : Reader RawExpr) where
     if is_match then (λ w. roll-RawExpr (RawExpr-F.Matches a w)) <$> string
         else (λ ts. compared_by a (comparison_operator (first ts)) ts)
 
-  -- cmp = sum [ ("==" | "!=" | "<" | ">" | "<=" | ">=") sum | "=~" STRING ] | "uri" ("==" | "!=") "myself"
+  -- cmp = sum [ ("==" | "!=" | "<" | ">" | "<=" | ">=") sum | "=~" STRING ] | "uri" ("==" | "!=") "read_myself"
   abbrev pub comparison_by : Option Lexeme → Reader RawExpr
-  comparison_by (Some (lexeme.Keyword word_is.Uri)) = myself
+  comparison_by (Some (lexeme.Keyword word_is.Uri)) = read_myself
   comparison_by _ = sum >>= compared
 
   unfoldable pub comparison : Reader RawExpr
@@ -137,7 +137,7 @@ module _ (unary : Reader RawExpr) where
 
   -- and = cmp { ("&&" | "and") cmp }
   unfoldable pub more_of_all : List RawExpr → Reader (List RawExpr)
-  more_of_all = many (joined is_and comparison)
+  more_of_all = many (read_joined is_and comparison)
 
   unfoldable pub all_of : Reader RawExpr
   all_of = do
@@ -147,7 +147,7 @@ module _ (unary : Reader RawExpr) where
 
   -- expr = and { ("||" | "or") and }
   unfoldable pub more_of_any : List RawExpr → Reader (List RawExpr)
-  more_of_any = many (joined is_or all_of)
+  more_of_any = many (read_joined is_or all_of)
 
   unfoldable pub any_of : Reader RawExpr
   any_of = do
@@ -179,8 +179,8 @@ unfoldable pub unary : ℕ → Reader RawExpr
 unary zero = atom
 unary (suc room) = prefixed (unary room)
 
-unfoldable pub expr_in : ℕ → Reader RawExpr
-expr_in room = any_of (unary room)
+unfoldable pub read_expr : ℕ → Reader RawExpr
+read_expr room = any_of (unary room)
 
 unfoldable pub expr : Reader RawExpr
-expr = expr_in 31
+expr = read_expr 31

@@ -52,7 +52,7 @@ unfoldable pub first : List Token → Option Lexeme
 first [] = None
 first (t ∷ ts) = Some t.lexeme
 
--- the tokens behind it
+-- the tokens after it
 unfoldable pub passed : List Token → List Token
 passed [] = []
 passed (t ∷ ts) = ts
@@ -131,7 +131,7 @@ abbrev pub go_on : {A : Type 0} → Option A → List A → (List A → Reader (
 go_on None found more = pure found
 go_on (Some x) found more = more (found ++ x ∷ [])
 
--- item by item, until none comes, behind those that were found. The number bounds the turns: each takes a token, so the
+-- item by item, until none comes, after those that were found. The number bounds the turns: each takes a token, so the
 -- count of tokens is enough.
 unfoldable pub many_from : {A : Type 0} → Reader (Option A) → ℕ → List A → Reader (List A)
 many_from step zero found = pure found
@@ -142,9 +142,9 @@ many_from step (suc n) found = do
 unfoldable pub many : {A : Type 0} → Reader (Option A) → List A → Reader (List A)
 many step found = λ ts. many_from step (length ts) found ts
 
--- ---- what a function answers that reads so
+-- ---- the result of a function that reads so
 
--- the value that is read, with the rest; or a fault where none is. Want of memory may come at any time.
+-- the value that is read, with the rest; or a fault where none is. It may be out of memory at any time.
 abbrev pub Reads : {A : Type 0} → Option (A × List Token) → Result A Fault → List Token → Type 0
 Reads found (Ok a) rest = found ≡ Some (a, rest)
 Reads found (Err fault) rest = fault ≢ NoMemory → found ≡ None

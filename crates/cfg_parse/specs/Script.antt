@@ -15,16 +15,16 @@ use Rattle.cfg_tree.specs.declared.raw.Setting.{Setting}
 use Rattle.cfg_tree.specs.declared.raw.Setting.TheVariants as setting
 use Rattle.cfg_tree.specs.declared.raw.RawItem.{RawItem}
 use Rattle.cfg_tree.specs.declared.raw.RawItem.TheVariants as item
-use Rattle.cfg_parse.specs.declared.script.Kinds.{Kinds}
+use Rattle.cfg_parse.specs.declared.script.BlockKinds.{BlockKinds}
 use Rattle.cfg_parse.specs.declared.fault.Fault.{Fault}
 use Rattle.cfg_parse.specs.declared.fault.Fault.TheVariants.{NoMemory}
 use Rattle.cfg_parse.specs.Reader.{Reader, ◌>>=◌, ◌>>◌, ◌<$>◌, pure, refuse, first, one, here, since, eat_mark, mark_of, keyword_of, many}
-use Rattle.cfg_parse.specs.Calls.{string, name, block_name}
+use Rattle.cfg_parse.specs.Calls.{string, name, read_block_name}
 use Rattle.cfg_parse.specs.Stmts.{body}
 
 -- [";"]
-abbrev pub end_of : Reader Bool
-end_of = eat_mark mark.Semicolon
+abbrev pub read_end : Reader Bool
+read_end = eat_mark mark.Semicolon
 
 -- NUMBER | STRING | NAME | LISTEN
 abbrev pub setting_in : Lexeme → Place → Option Setting
@@ -38,20 +38,20 @@ unfoldable pub setting_of : Reader Setting
 setting_of = one setting_in
 
 -- STRING | NUMBER
-abbrev pub value_in : Lexeme → Place → Option Setting
-value_in (lexeme.Number (pos n)) at = Some (setting.Number (pos n))
-value_in (lexeme.String s) at = Some (setting.String s)
-value_in _ at = None
+abbrev pub setting_token : Lexeme → Place → Option Setting
+setting_token (lexeme.Number (pos n)) at = Some (setting.Number (pos n))
+setting_token (lexeme.String s) at = Some (setting.String s)
+setting_token _ at = None
 
 unfoldable pub value_of : Reader Setting
-value_of = one value_in
+value_of = one setting_token
 
 -- "loadmodule" STRING [";"]
 unfoldable pub module_of : Reader RawItem
 module_of = do
   keyword_of word_is.Loadmodule
   w ← string
-  _ ← end_of
+  _ ← read_end
   pure (item.Module w)
 
 -- "modparam" "(" STRING "," STRING "," ( STRING | NUMBER ) ")" [";"]
@@ -65,23 +65,23 @@ module_parameter = do
   mark_of mark.Comma
   v ← value_of
   mark_of mark.CloseRound
-  _ ← end_of
+  _ ← read_end
   pure (item.ModuleParameter of w v)
 
--- ( NUMBER | STRING | NAME | LISTEN ) [";"], behind NAME "="
+-- ( NUMBER | STRING | NAME | LISTEN ) [";"], after NAME "="
 unfoldable pub parameter : Word → Reader RawItem
 parameter w = do
   v ← setting_of
-  _ ← end_of
+  _ ← read_end
   pure (item.Parameter w v)
 
 -- ---- blocks
 
 -- the kinds of block that a word begins: without a name, and with one
-abbrev pub route_kinds : Kinds
+abbrev pub route_kinds : BlockKinds
 route_kinds = record { alone = Some (Begins Request); named = Some Route }
 
-unfoldable pub kinds_of : List ℕ → Kinds
+unfoldable pub kinds_of : List ℕ → BlockKinds
 kinds_of word =
     if bytes_eq word (codes "request_route") then record { alone = Some (Begins Request); named = None }
     else (if bytes_eq word (codes "reply_route") then record { alone = Some (Begins Reply); named = None }
@@ -91,7 +91,7 @@ kinds_of word =
     else (if bytes_eq word (codes "event_route") then record { alone = None; named = Some (Begins Event) }
     else record { alone = None; named = None })))))
 
--- [ "[" BNAME "]" ], behind the word
+-- [ "[" BNAME "]" ], after the word
 abbrev pub alone_by : Option RouteKind → Reader (RouteKind × Option Word)
 alone_by None = refuse
 alone_by (Some kind) = pure (kind, None)
@@ -100,19 +100,19 @@ abbrev pub named_by : Option RouteKind → Reader (RouteKind × Option Word)
 named_by None = refuse
 named_by (Some kind) = do
   mark_of mark.OpenSquare
-  w ← block_name
+  w ← read_block_name
   mark_of mark.CloseSquare
   pure (kind, Some w)
 
-abbrev pub head_by : Kinds → Option Lexeme → Reader (RouteKind × Option Word)
+abbrev pub head_by : BlockKinds → Option Lexeme → Reader (RouteKind × Option Word)
 head_by kinds (Some (lexeme.Mark mark.OpenSquare)) = named_by kinds.named
 head_by kinds _ = alone_by kinds.alone
 
-unfoldable pub head_of : Kinds → Reader (RouteKind × Option Word)
+unfoldable pub head_of : BlockKinds → Reader (RouteKind × Option Word)
 head_of kinds = λ ts. head_by kinds (first ts) ts
 
--- [ "[" BNAME "]" ] "{" { stmt } "}", behind the word, which stands there
-unfoldable pub block : List Token → Place → Kinds → Reader RawItem
+-- [ "[" BNAME "]" ] "{" { stmt } "}", after the word, which stands there
+unfoldable pub block : List Token → Place → BlockKinds → Reader RawItem
 block start at kinds = do
   head ← head_of kinds
   mark_of mark.OpenCurly
@@ -147,13 +147,13 @@ item_by (Some (lexeme.Keyword word_is.Modparam)) = module_parameter
 item_by (Some (lexeme.Keyword word_is.Route)) = route_block
 item_by _ = named_item
 
-unfoldable pub item_of : Reader RawItem
-item_of = λ ts. item_by (first ts) ts
+unfoldable pub read_item : Reader RawItem
+read_item = λ ts. item_by (first ts) ts
 
 -- the next one, if any token is left
 abbrev pub next_by : Option Lexeme → Reader (Option RawItem)
 next_by None = pure None
-next_by (Some x) = Some <$> item_of
+next_by (Some x) = Some <$> read_item
 
 unfoldable pub next_item : Reader (Option RawItem)
 next_item = λ ts. next_by (first ts) ts
@@ -171,7 +171,7 @@ all_read (Some (found, t ∷ ts)) = None
 unfoldable pub script_at : List Token → Option (List RawItem)
 script_at ts = all_read (items ts)
 
--- what a function answers that reads all the tokens
+-- the result of a function that reads all the tokens
 abbrev pub ReadsAll : Option (List RawItem) → Result (List RawItem) Fault → Type 0
 ReadsAll found (Ok items) = found ≡ Some items
 ReadsAll found (Err fault) = fault ≢ NoMemory → found ≡ None

@@ -47,8 +47,8 @@ call_alone = do
   pure (roll-RawStmt (RawStmt-F.Do at c))
 
 -- [ expr ] ";"
-unfoldable pub returned : Reader (Option RawExpr)
-returned = do
+unfoldable pub read_returned : Reader (Option RawExpr)
+read_returned = do
   none ← eat_mark mark.Semicolon
   if none then pure None else (do
     e ← expr
@@ -60,7 +60,7 @@ unfoldable pub return_of : Reader RawStmt
 return_of = do
   start ← here
   keyword_of word_is.Return
-  value ← returned
+  value ← read_returned
   at ← since start
   pure (roll-RawStmt (RawStmt-F.Return at value))
 

@@ -83,9 +83,9 @@ pub fn name(alloc: Global, tokens: &mut Tokens<'_>) -> Result<Word, Fault>
 }
 
 /// BNAME
-#[tactic(auto, unfolding(crate::specs::Calls::block_name, crate::specs::Reader::one, crate::specs::Reader::first, crate::specs::Reader::next, crate::specs::Reader::passed))]
+#[tactic(auto, unfolding(crate::specs::Calls::read_block_name, crate::specs::Reader::one, crate::specs::Reader::first, crate::specs::Reader::next, crate::specs::Reader::passed))]
 pub fn block_name(alloc: Global, tokens: &mut Tokens<'_>) -> Result<Word, Fault>
-    ensures { Reads (spec.block_name tokens.old) result tokens.new }
+    ensures { Reads (spec.read_block_name tokens.old) result tokens.new }
 {
     let Some(Lexeme::BlockName(text)) = tokens.first() else {
         return Err(tokens.refuse());
@@ -131,7 +131,7 @@ fn argument(alloc: Global, tokens: &mut Tokens<'_>) -> Result<RawArg, Fault>
     }
 }
 
-/// The argument behind a comma, if one comes.
+/// The argument after a comma, if one comes.
 fn next_argument(alloc: Global, tokens: &mut Tokens<'_>) -> Result<Option<RawArg>, Fault>
     ensures { Reads (behind_mark Comma spec.argument tokens.old) result tokens.new }
 {
@@ -158,9 +158,9 @@ fn arguments(alloc: Global, tokens: &mut Tokens<'_>) -> Result<Items<RawArg>, Fa
 }
 
 /// `NAME "(" [ arg { "," arg } ] ")"`
-#[tactic(auto, unfolding(crate::specs::Calls::function_call))]
+#[tactic(auto, unfolding(crate::specs::Calls::read_function_call))]
 fn function_call(alloc: Global, tokens: &mut Tokens<'_>) -> Result<RawCall, Fault>
-    ensures { Reads (spec.function_call tokens.old) result tokens.new }
+    ensures { Reads (spec.read_function_call tokens.old) result tokens.new }
 {
     let name = name(alloc, tokens)?;
     tokens.mark(Mark::OpenRound)?;

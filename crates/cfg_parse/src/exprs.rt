@@ -90,7 +90,7 @@ fn chain(
     Ok(RawExpr::Chain(Boxed::new(alloc, first)?, links))
 }
 
-/// The first operand, and those behind it.
+/// The first operand, and those after it.
 fn together(
     alloc: Global,
     first: RawExpr,
@@ -132,9 +132,9 @@ fn is_equal(tokens: &mut Tokens<'_>) -> Result<bool, Fault>
 }
 
 /// `"uri" ( "==" | "!=" ) "myself"`
-#[tactic(auto, unfolding(crate::specs::Exprs::myself))]
+#[tactic(auto, unfolding(crate::specs::Exprs::read_myself))]
 fn myself(tokens: &mut Tokens<'_>) -> Result<RawExpr, Fault>
-    ensures { Reads (spec.myself tokens.old) result tokens.new }
+    ensures { Reads (spec.read_myself tokens.old) result tokens.new }
 {
     tokens.keyword(Keyword::Uri)?;
     let is = is_equal(tokens)?;
@@ -161,7 +161,7 @@ impl<F: Fn(Global, &mut Tokens<'_>, usize) -> Result<RawExpr, Fault>> Levels<F> 
 
     fn next_factor(&self, tokens: &mut Tokens<'_>) -> Result<Option<(BinOp, RawExpr)>, Fault>
         requires { ReadsUnary self.now.room (F.pre self.now.unary) (F.post self.now.unary) }
-        ensures { Reads (spec.linked spec.factor_operator (spec.unary self.now.room) tokens.old) result tokens.new }
+        ensures { Reads (spec.read_link spec.factor_operator (spec.unary self.now.room) tokens.old) result tokens.new }
     {
         let Some(op) = factor_operator(tokens.first()) else {
             return Ok(None);
@@ -187,7 +187,7 @@ impl<F: Fn(Global, &mut Tokens<'_>, usize) -> Result<RawExpr, Fault>> Levels<F> 
 
     fn next_term(&self, tokens: &mut Tokens<'_>) -> Result<Option<(BinOp, RawExpr)>, Fault>
         requires { ReadsUnary self.now.room (F.pre self.now.unary) (F.post self.now.unary) }
-        ensures { Reads (spec.linked spec.term_operator (spec.product (spec.unary self.now.room)) tokens.old) result tokens.new }
+        ensures { Reads (spec.read_link spec.term_operator (spec.product (spec.unary self.now.room)) tokens.old) result tokens.new }
     {
         let Some(op) = term_operator(tokens.first()) else {
             return Ok(None);
@@ -246,7 +246,7 @@ impl<F: Fn(Global, &mut Tokens<'_>, usize) -> Result<RawExpr, Fault>> Levels<F> 
 
     fn next_of_all(&self, tokens: &mut Tokens<'_>) -> Result<Option<RawExpr>, Fault>
         requires { ReadsUnary self.now.room (F.pre self.now.unary) (F.post self.now.unary) }
-        ensures { Reads (spec.joined spec.is_and (spec.comparison (spec.unary self.now.room)) tokens.old) result tokens.new }
+        ensures { Reads (spec.read_joined spec.is_and (spec.comparison (spec.unary self.now.room)) tokens.old) result tokens.new }
     {
         if !is_and(tokens.first()) {
             return Ok(None);
@@ -275,7 +275,7 @@ impl<F: Fn(Global, &mut Tokens<'_>, usize) -> Result<RawExpr, Fault>> Levels<F> 
 
     fn next_of_any(&self, tokens: &mut Tokens<'_>) -> Result<Option<RawExpr>, Fault>
         requires { ReadsUnary self.now.room (F.pre self.now.unary) (F.post self.now.unary) }
-        ensures { Reads (spec.joined spec.is_or (spec.all_of (spec.unary self.now.room)) tokens.old) result tokens.new }
+        ensures { Reads (spec.read_joined spec.is_or (spec.all_of (spec.unary self.now.room)) tokens.old) result tokens.new }
     {
         if !is_or(tokens.first()) {
             return Ok(None);
@@ -338,7 +338,7 @@ impl<F: Fn(Global, &mut Tokens<'_>, usize) -> Result<RawExpr, Fault>> Levels<F> 
 }
 
 /// A `un`, in which so many brackets and prefix operators may stand inside one another. Where none may, one
-/// is a fault by itself: nothing that the grammar derives goes on behind it.
+/// is a fault by itself: nothing that the grammar derives goes on after it.
 fn unary(alloc: Global, tokens: &mut Tokens<'_>, room: usize) -> Result<RawExpr, Fault>
     ensures { Reads (spec.unary room tokens.old) result tokens.new }
 {
@@ -354,7 +354,7 @@ fn unary(alloc: Global, tokens: &mut Tokens<'_>, room: usize) -> Result<RawExpr,
 }
 
 /// An expression.
-#[tactic(auto, unfolding(crate::specs::Exprs::expr, crate::specs::Exprs::expr_in))]
+#[tactic(auto, unfolding(crate::specs::Exprs::expr, crate::specs::Exprs::read_expr))]
 pub fn expr(alloc: Global, tokens: &mut Tokens<'_>) -> Result<RawExpr, Fault>
     ensures { Reads (spec.expr tokens.old) result tokens.new }
 {

@@ -1,4 +1,4 @@
-//! Repetition: items, one behind the other.
+//! Repetition: items, one after the other.
 
 ghost use Rattle.std.specs.Prelude.{List, Option};
 ghost use Rattle.cfg_tree.specs.declared.token.Token.{Token};
@@ -9,7 +9,7 @@ use crate::fault::Fault;
 use crate::tokens::Tokens;
 use sqlite_items::Items;
 
-/// Item by item, behind those that were found, until none comes. Each item takes a token.
+/// Item by item, after those that were found, until none comes. Each item takes a token.
 #[tactic(auto, using(crate::proofs::Turns::turns), unfolding(crate::specs::Reader::many))]
 pub fn many<A: Drop, F: Fn(&mut Tokens<'_>) -> Result<Option<A>, Fault>>(
     tokens: &mut Tokens<'_>,

@@ -18,22 +18,22 @@ use std::alloc::Global;
 
 /// The kinds of block that a word begins: without a name, and with one.
 #[derive(Clone, Copy)]
-pub struct Kinds {
+pub struct BlockKinds {
     alone: Option<RouteKind>,
     named: Option<RouteKind>,
 }
 
-impl Kinds {
-    fn new(alone: Option<RouteKind>, named: Option<RouteKind>) -> Kinds
+impl BlockKinds {
+    fn new(alone: Option<RouteKind>, named: Option<RouteKind>) -> BlockKinds
         ensures { result ≡ record { alone = alone; named = named } }
     {
-        Kinds { alone, named }
+        BlockKinds { alone, named }
     }
 }
 
 /// The kinds of block that a word other than `route` begins.
 #[tactic(auto, unfolding(crate::specs::Script::kinds_of))]
-fn kinds_of(word: &[u8]) -> Kinds
+fn kinds_of(word: &[u8]) -> BlockKinds
     ensures { result ≡ spec.kinds_of word.now }
 {
     let request = Some(RouteKind::Begins(BlockKind::Request));
@@ -42,19 +42,19 @@ fn kinds_of(word: &[u8]) -> Kinds
     let failure = Some(RouteKind::Begins(BlockKind::Failure));
     let event = Some(RouteKind::Begins(BlockKind::Event));
     if word == b"request_route".as_slice() {
-        Kinds::new(request, None)
+        BlockKinds::new(request, None)
     } else if word == b"reply_route".as_slice() {
-        Kinds::new(reply, None)
+        BlockKinds::new(reply, None)
     } else if word == b"onreply_route".as_slice() {
-        Kinds::new(reply, reply)
+        BlockKinds::new(reply, reply)
     } else if word == b"branch_route".as_slice() {
-        Kinds::new(None, branch)
+        BlockKinds::new(None, branch)
     } else if word == b"failure_route".as_slice() {
-        Kinds::new(None, failure)
+        BlockKinds::new(None, failure)
     } else if word == b"event_route".as_slice() {
-        Kinds::new(None, event)
+        BlockKinds::new(None, event)
     } else {
-        Kinds::new(None, None)
+        BlockKinds::new(None, None)
     }
 }
 
@@ -112,7 +112,7 @@ fn module_parameter(alloc: Global, tokens: &mut Tokens<'_>) -> Result<RawItem, F
     Ok(RawItem::ModuleParameter(module, name, value))
 }
 
-/// `( NUMBER | STRING | NAME | LISTEN ) [";"]`, behind `NAME "="`
+/// `( NUMBER | STRING | NAME | LISTEN ) [";"]`, after `NAME "="`
 #[tactic(auto, unfolding(crate::specs::Script::parameter))]
 fn parameter(alloc: Global, tokens: &mut Tokens<'_>, name: Word) -> Result<RawItem, Fault>
     ensures { Reads (spec.parameter name tokens.old) result tokens.new }
@@ -122,13 +122,13 @@ fn parameter(alloc: Global, tokens: &mut Tokens<'_>, name: Word) -> Result<RawIt
     Ok(RawItem::Parameter(name, value))
 }
 
-/// `[ "[" BNAME "]" ]`, behind the word that begins a block. A name where the word takes none, and what is no
+/// `[ "[" BNAME "]" ]`, after the word that begins a block. A name where the word takes none, and what is no
 /// name where the word takes one, is a fault by itself.
 #[tactic(auto, unfolding(crate::specs::Script::head_of))]
 fn head(
     alloc: Global,
     tokens: &mut Tokens<'_>,
-    kinds: Kinds,
+    kinds: BlockKinds,
 ) -> Result<(RouteKind, Option<Word>), Fault>
     ensures { Reads (spec.head_of kinds tokens.old) result tokens.new }
 {
@@ -147,14 +147,14 @@ fn head(
     Ok((kind, Some(name)))
 }
 
-/// `[ "[" BNAME "]" ] "{" { stmt } "}"`, behind the word that begins the block, which stands at `kind_at`
+/// `[ "[" BNAME "]" ] "{" { stmt } "}"`, after the word that begins the block, which stands at `kind_at`
 #[tactic(auto, unfolding(crate::specs::Script::block))]
 fn block(
     alloc: Global,
     tokens: &mut Tokens<'_>,
     start: &[Token],
     kind_at: Place,
-    kinds: Kinds,
+    kinds: BlockKinds,
 ) -> Result<RawItem, Fault>
     ensures { Reads (spec.block start.now kind_at kinds tokens.old) result tokens.new }
 {
@@ -182,7 +182,7 @@ fn route_block(alloc: Global, tokens: &mut Tokens<'_>) -> Result<RawItem, Fault>
     };
     let at = tokens.pass();
     let request = Some(RouteKind::Begins(BlockKind::Request));
-    let kinds = Kinds::new(request, Some(RouteKind::Route));
+    let kinds = BlockKinds::new(request, Some(RouteKind::Route));
     block(alloc, tokens, start, at, kinds)
 }
 
@@ -201,9 +201,9 @@ fn named_item(alloc: Global, tokens: &mut Tokens<'_>) -> Result<RawItem, Fault>
 }
 
 /// A parameter, a module or a block.
-#[tactic(auto, unfolding(crate::specs::Script::item_of))]
+#[tactic(auto, unfolding(crate::specs::Script::read_item))]
 fn item(alloc: Global, tokens: &mut Tokens<'_>) -> Result<RawItem, Fault>
-    ensures { Reads (spec.item_of tokens.old) result tokens.new }
+    ensures { Reads (spec.read_item tokens.old) result tokens.new }
 {
     match tokens.first() {
         Some(Lexeme::Keyword(Keyword::Loadmodule)) => module(alloc, tokens),

@@ -56,9 +56,9 @@ fn call_alone(alloc: Global, tokens: &mut Tokens<'_>) -> Result<RawStmt, Fault>
 }
 
 /// `[ expr ] ";"`
-#[tactic(auto, unfolding(crate::specs::Stmts::returned))]
+#[tactic(auto, unfolding(crate::specs::Stmts::read_returned))]
 fn returned(alloc: Global, tokens: &mut Tokens<'_>) -> Result<Option<RawExpr>, Fault>
-    ensures { Reads (spec.returned tokens.old) result tokens.new }
+    ensures { Reads (spec.read_returned tokens.old) result tokens.new }
 {
     if tokens.eat_mark(Mark::Semicolon) {
         return Ok(None);

@@ -7,19 +7,21 @@ ghost use Rattle.cfg_parse.specs.Answer.{IsTheOnly, IsSyntaxOf, GivesTree, Gives
 
 use crate::fault::Fault;
 use crate::script::script;
-use cfg_tree::{RawScript, Token};
+use cfg_tree::{RawScript, RefusalKind, Token};
 use pv_values::ScriptFault;
 use std::alloc::Global;
 
-/// The kind of a refusal by the grammar.
-const SYNTAX: u8 = 3;
-
-/// The tree of the tokens of a text, or the refusal `Syntax`, which is kind 3, where the grammar derives none
-/// from them.
+/// The tree of the tokens of a text, or the refusal `Syntax`, where the grammar derives none from them.
+///
+/// ```
+/// let text = b"request_route { exit; }";
+/// let tokens = lex(alloc, text)?;
+/// let tree = parse(alloc, text, &tokens)?; // one block with one statement
+/// parse(alloc, text, &tokens[..1]); // refused: Syntax, at the text's end
+/// ```
 ///
 /// A tree that is given is the one that the grammar derives from these tokens, and there is no other. Where a tree
-/// exists it is given, or the answer is want of memory; where none exists the answer is `Syntax`, or want of
-/// memory. The place of a `Syntax` is that of the first token with which the tokens up to it begin no list of tokens
+/// exists it is given, or it is out of memory; where none exists `Syntax` is given, or it is out of memory. The place of a `Syntax` is that of the first token with which the tokens up to it begin no list of tokens
 /// that the grammar derives, and the empty place at the text's end where no token is such (the place is tested and
 /// not proved).
 ///
@@ -35,7 +37,10 @@ pub fn parse(alloc: Global, text: &[u8], tokens: &[Token]) -> Result<RawScript, 
     let end = text.len();
     match script(alloc, tokens, end) {
         Ok(items) => Ok(RawScript { items, end }),
-        Err(Fault::Syntax(at)) => Err(ScriptFault::Refused { kind: SYNTAX, at }),
+        Err(Fault::Syntax(at)) => Err(ScriptFault::Refused {
+            kind: RefusalKind::Syntax.number(),
+            at,
+        }),
         Err(Fault::NoMemory) => Err(ScriptFault::NoMemory),
     }
 }

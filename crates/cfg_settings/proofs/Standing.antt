@@ -3,7 +3,7 @@ use Rattle.std.proofs.Common.{◌≡◌, ℕ, suc, ◌+◌, ◌<◌, ◌≤◌, 
 use Rattle.std.proofs.lemmas.List.{drop_more, drop_all}
 use Rattle.cfg_tree.specs.Variables.{before, begins_with}
 
--- what stands at a place, and behind the end
+-- what stands at a place, and after the end
 pub stands_in : (byte : ℕ) (text : List ℕ) (i : ℕ) → i < length text → begins_with byte (drop i text) ≡ (get_or text i 0 == byte)
 stands_in byte text i lt = let e = drop_more text i 0 lt in rw e refl
 

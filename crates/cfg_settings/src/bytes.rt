@@ -1,4 +1,4 @@
-// Where a byte stands in a text.
+//! Where a byte stands in a text.
 
 ghost use Rattle.std.specs.Prelude.{◌≡◌, ◌+◌, ◌<◌, ◌≤◌, length, take, drop, IsTrue};
 ghost use Rattle.cfg_tree.specs.Variables.{before, begins_with};
@@ -26,7 +26,7 @@ pub fn before(text: &[u8], byte: u8) -> usize
     text.len()
 }
 
-/// The text before the first byte of this value, and behind it.
+/// The text before the first byte of this value, and after it.
 #[tactic(auto, using(std::proofs::lemmas::List::drop_all))]
 pub fn cut_at(text: &[u8], byte: u8) -> (&[u8], &[u8])
     ensures front { result.0.now ≡ take (before byte text.now) text.now }

@@ -1,13 +1,13 @@
-// The items of a script, one after another: what they set, and what is refused.
+//! The items of a script, one after another: what they set, and what is refused.
 
 ghost use Rattle.std.specs.Prelude.{◌≡◌, ◌++◌, [], ◌∷◌, OnOk, IfOk, if◌then◌else◌};
 ghost use Rattle.cfg_tree.specs.Settings.{item_step, settings_of, setting_refusals};
-ghost use Rattle.cfg_settings.specs.Kinds.{number_of};
+ghost use Rattle.cfg_tree.specs.Refusals.{refusal};
 
 use crate::module::is_module;
-use crate::refusal::{Kind, Refusal};
+use crate::refusal::Refusal;
 use crate::setting::Settings;
-use cfg_tree::{RawItem, Setting, Word};
+use cfg_tree::{RawItem, RefusalKind, Setting, Word};
 use pv_values::Place;
 use sqlite_items::Items;
 use std::alloc::{AllocError as NoMemory, Global};
@@ -18,11 +18,11 @@ const MAX_TABLES: usize = 32;
 /// Adds a refusal where a test fails.
 fn refuse_unless(
     passed: bool,
-    kind: Kind,
+    kind: RefusalKind,
     at: Place,
     refusals: &mut Items<Refusal>,
 ) -> Result<(), NoMemory>
-    ensures { let refused = record { kind = number_of kind; at = at } ∷ [] in
+    ensures { let refused = refusal kind at ∷ [] in
         OnOk result (refusals.new ≡ refusals.old ++ (if passed then [] else refused)) }
 {
     if !passed {
@@ -44,7 +44,7 @@ fn take_parameter(
         OnOk result (refusals.new ≡ refusals.old ++ (item_step i settings.old).1) }
 {
     let accepted = settings.set_parameter(alloc, name.text.bytes(), value)?;
-    refuse_unless(accepted, Kind::BadParameter, name.at, refusals)
+    refuse_unless(accepted, RefusalKind::BadParameter, name.at, refusals)
 }
 
 /// `modparam(MODULE, NAME, VALUE)`: the 33rd table is refused.
@@ -68,10 +68,10 @@ fn take_module_parameter(
         name.text.bytes(),
         value,
     )?;
-    refuse_unless(accepted, Kind::BadParameter, name.at, refusals)?;
+    refuse_unless(accepted, RefusalKind::BadParameter, name.at, refusals)?;
     let count = settings.table_count();
     let fits = count <= old_count || count <= MAX_TABLES;
-    refuse_unless(fits, Kind::TooLarge, name.at, refusals)
+    refuse_unless(fits, RefusalKind::TooLarge, name.at, refusals)
 }
 
 /// One item.
@@ -88,7 +88,7 @@ fn take_item(
         RawItem::Parameter(name, value) => take_parameter(alloc, name, value, settings, refusals),
         RawItem::Module(name) => refuse_unless(
             is_module(name.text.bytes()),
-            Kind::UnknownModule,
+            RefusalKind::UnknownModule,
             name.at,
             refusals,
         ),
@@ -99,7 +99,7 @@ fn take_item(
     }
 }
 
-/// What the items of a script set; what they refuse is put behind the refusals so far.
+/// What the items of a script set; what they refuse is put after the refusals so far.
 pub fn settings_in(
     alloc: Global,
     items: &[RawItem],

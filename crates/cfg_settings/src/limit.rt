@@ -1,4 +1,4 @@
-// Values that may be given once, and numbers within bounds.
+//! Values that may be given once, and numbers within bounds.
 
 ghost use Rattle.std.specs.Prelude.{◌≡◌};
 ghost use Rattle.cfg_tree.specs.Functions.{between};

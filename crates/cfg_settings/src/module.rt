@@ -1,4 +1,4 @@
-// The modules that a script may load.
+//! The modules that a script may load.
 
 ghost use Rattle.std.specs.Prelude.{◌≡◌, ◌++◌, ◌||◌, codes};
 ghost use Rattle.std.specs.List.{list_any};
@@ -20,7 +20,7 @@ const MODULE_NAMES: [&[u8]; 11] = [
     b"xlog",
 ];
 
-/// A name without its path: what is behind the last `/`.
+/// A name without its path: what is after the last `/`.
 #[tactic(auto, using(crate::proofs::Paths::slash_seen, crate::proofs::Paths::other_seen, crate::proofs::Paths::all_seen))]
 fn without_path(text: &[u8]) -> &[u8]
     ensures { result.now ≡ without_path text.now }

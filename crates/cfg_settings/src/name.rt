@@ -1,4 +1,4 @@
-// Names, and what stands behind them.
+//! Names, and what stands after them.
 
 ghost use Rattle.std.specs.Prelude.{◌≡◌, option_map};
 ghost use Rattle.std.specs.List.{list_all};

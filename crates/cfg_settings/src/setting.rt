@@ -1,4 +1,4 @@
-// What a script sets: its parameters and its tables.
+//! What a script sets: its parameters and its tables.
 
 ghost use Rattle.std.specs.Prelude.{◌≡◌, ℕ, List, ◌++◌, [], ◌∷◌, length, map, Some, option_map, IfOk};
 ghost use Rattle.std.specs.Str.{bytes_eq};

@@ -1,4 +1,4 @@
-// The tables that a script gives.
+//! The tables that a script gives.
 
 ghost use Rattle.std.specs.Prelude.{◌≡◌, Some, None, IfOk};
 ghost use Rattle.cfg_tree.specs.Names.{table_and_key};
@@ -8,8 +8,7 @@ ghost use Rattle.cfg_settings.specs.Parts.{part_number};
 use crate::bytes::{before, cut_at, stands_at};
 use crate::limit::{first_time, number_between};
 use crate::name::{is_name, table_and_key};
-use pv_values::number::text_number;
-use pv_values::{TableSpec, Text};
+use pv_values::{TableSpec, Text, text_number};
 use std::alloc::{AllocError as NoMemory, Global};
 use std::marker::Model;
 
@@ -35,7 +34,7 @@ impl Model for TableParts {
     } };
 }
 
-/// The number behind a part's first `=`.
+/// The number after a part's first `=`.
 fn number_of(part: &[u8]) -> Option<i64>
     ensures { result ≡ part_number part.now }
 {
@@ -105,7 +104,7 @@ impl TableParts {
         }
     }
 
-    /// With the parts of a text, between semicolons; one may stand behind the last part.
+    /// With the parts of a text, between semicolons; one may stand after the last part.
     fn with_parts(self, text: &[u8]) -> Option<TableParts>
         ensures { result ≡ with_parts (without_empty_end (at_semicolons text.now)) (Some self) }
     {

@@ -23,10 +23,11 @@ use Rattle.cfg_tree.specs.declared.script.Part.TheOpen.{Part-F}
 use Rattle.cfg_tree.specs.declared.script.Part.TheViews.{roll-Part}
 use Rattle.cfg_tree.specs.Names.{Known, table_and_key, part_of}
 use Rattle.cfg_tree.specs.Functions.{FuncWith, Form, expanded_arg, literal, between, number_arg, is_same_block, block_number, table_number, pattern_number, no_arg, one_arg, two_args, three_args, plain, expanding, expanding_two, expanding_maybe, replying, counting, with_literal, taking_text, taking_block, taking_pattern, taking_table, taking_table_pattern, needed_fields, taking_removable, continuing, logging, form, may_stand, function_call}
-use Rattle.cfg_tree.specs.Refusals.{Seen, Outcome, Checked, accepted, refused, both}
+use Rattle.cfg_tree.specs.Refusals.{refusal, Seen, Outcome, Checked, accepted, refused, both}
 use Rattle.cfg_tree.specs.Closed.{Names, closed_func, closed_part, closed_parts}
 use Rattle.cfg_tree.proofs.Closing.{Within, Gives, Closes, accepted_closes, refused_closes, one_closes, both_closes, from_some_closes, unless_closes, if_closes}
 use Rattle.cfg_tree.proofs.ClosedNames.{IsTable, FinePart, FineParts, text_fine, table_fine, expansion_closes, part_of_closes}
+use Rattle.cfg_tree.specs.declared.refusal_kind.RefusalKind.TheVariants.{UnknownRoute, UnknownFunction, WrongBlock, WrongArguments, UnknownVariable, BadPattern, TooLarge}
 
 -- the blocks of a script are there, each of its kind, and its tables
 pub record AreKnown (names : Names) (known : Known) : Type 0 where
@@ -54,12 +55,12 @@ module _ (names : Names) (known : Known) (are : AreKnown names known) where
 
   pub block_number_closes : (kind : RouteKind) (w : Word) → Closes names (IsBlock kind) (block_number known kind w)
   block_number_closes kind w =
-      from_some_closes names (IsBlock kind) (position (is_same_block (kind, Some w.text)) known.blocks) 4 w.at accepted
+      from_some_closes names (IsBlock kind) (position (is_same_block (kind, Some w.text)) known.blocks) UnknownRoute w.at accepted
       (λ b e. accepted_closes names (IsBlock kind) b (are.blocks kind (Some w.text) b e))
 
   table_number_closes : (at : Place) (name : List ℕ) → Closes names (IsTable names) (table_number known at name)
   table_number_closes at name =
-      from_some_closes names (IsTable names) (position (bytes_eq name) known.tables) 9 at accepted
+      from_some_closes names (IsTable names) (position (bytes_eq name) known.tables) UnknownVariable at accepted
       (λ t e. accepted_closes names (IsTable names) t (table_fine names known are.tables name t e))
 
   if_gives : {A : Type 0} (Fine : A → Type 0) (s : Seen) (b : Bool) (x y : Outcome A) → (Within names x.seen → Gives names Fine s x.value) → (Within names y.seen → Gives names Fine s y.value) →
@@ -70,8 +71,8 @@ module _ (names : Names) (known : Known) (are : AreKnown names known) where
   pub pattern_number_closes : (at : Place) (source : List ℕ) → Closes names IsPattern (pattern_number at source)
   pattern_number_closes at source = record {
     after = λ s.
-        if_gives IsPattern s (not (is_pattern source)) _ _ (λ within. (refused_closes names IsPattern 12 at).after s within)
-        (if_gives IsPattern s (nat_le 64 (length s.patterns)) _ _ (λ within. (refused_closes names IsPattern 13 at).after s within)
+        if_gives IsPattern s (not (is_pattern source)) _ _ (λ within. (refused_closes names IsPattern BadPattern at).after s within)
+        (if_gives IsPattern s (nat_le 64 (length s.patterns)) _ _ (λ within. (refused_closes names IsPattern TooLarge at).after s within)
         (λ within. record {
           before = record { patterns = let there = within.patterns in omega (arith, there, length-append s.patterns (source ∷ [])); vars = within.vars };
           fine = let there = within.patterns in lt-ltb (length s.patterns) names.patterns (omega (arith, there, length-append s.patterns (source ∷ [])));
@@ -99,11 +100,11 @@ module _ (names : Names) (known : Known) (are : AreKnown names known) where
 
   pub plain_closes : (f : Func) → FineFunc f → FormCloses (plain f)
   plain_closes f fine = record {
-    reads = λ at args. from_some_closes names FineCall (no_arg args) 8 at _ (λ n e. accepted_closes names FineCall (f, []) (record { func = fine; arguments = refl }));
+    reads = λ at args. from_some_closes names FineCall (no_arg args) WrongArguments at _ (λ n e. accepted_closes names FineCall (f, []) (record { func = fine; arguments = refl }));
   }
 
   expanding_reads : (f : Func) → FineFunc f → (at : Place) (args : List RawArg) → Closes names FineCall (expanding f known at args)
-  expanding_reads f fine at args = from_some_closes names FineCall (one_arg args) 8 at _ (λ x e.
+  expanding_reads f fine at args = from_some_closes names FineCall (one_arg args) WrongArguments at _ (λ x e.
       one_closes names (λ p. (f, p ∷ [])) (FineParts names) FineCall (λ p fp. record { func = fine; arguments = one_argument p fp }) (expanded_arg known x) (expanded_closes x))
 
   pub expanding_closes : (f : Func) → FineFunc f → FormCloses (expanding f)
@@ -111,7 +112,7 @@ module _ (names : Names) (known : Known) (are : AreKnown names known) where
 
   pub expanding_two_closes : (f : Func) → FineFunc f → FormCloses (expanding_two f)
   expanding_two_closes f fine = record {
-    reads = λ at args. from_some_closes names FineCall (two_args args) 8 at _ (λ pair e.
+    reads = λ at args. from_some_closes names FineCall (two_args args) WrongArguments at _ (λ pair e.
         both_closes names (λ p q. (f, p ∷ q ∷ [])) (FineParts names) (FineParts names) FineCall (λ p q fp fq. record { func = fine; arguments = two_arguments p q fp fq })
         (expanded_arg known pair.0) (expanded_arg known pair.1) (expanded_closes pair.0) (expanded_closes pair.1));
   }
@@ -125,20 +126,20 @@ module _ (names : Names) (known : Known) (are : AreKnown names known) where
 
   pub replying_closes : (make : ℕ → Func) → ((code : ℕ) → FineFunc (make code)) → FormCloses (replying make)
   replying_closes make fine = record {
-    reads = λ at args. from_some_closes names FineCall (two_args args) 8 at _ (λ pair e.
-        from_some_closes names FineCall (between 100 699 (number_arg pair.0)) 8 at _ (λ code is.
+    reads = λ at args. from_some_closes names FineCall (two_args args) WrongArguments at _ (λ pair e.
+        from_some_closes names FineCall (between 100 699 (number_arg pair.0)) WrongArguments at _ (λ code is.
         one_closes names (λ p. (make code, p ∷ [])) (FineParts names) FineCall (λ p fp. record { func = fine code; arguments = one_argument p fp }) (expanded_arg known pair.1) (expanded_closes pair.1)));
   }
 
   pub counting_closes : (make : ℕ → Func) → ((n : ℕ) → FineFunc (make n)) → FormCloses (counting make)
   counting_closes make fine = record {
-    reads = λ at args. from_some_closes names FineCall (one_arg args) 8 at _ (λ n e.
-        from_some_closes names FineCall (between 1 255 (number_arg n)) 8 at _ (λ n is. accepted_closes names FineCall (make n, []) (record { func = fine n; arguments = refl })));
+    reads = λ at args. from_some_closes names FineCall (one_arg args) WrongArguments at _ (λ n e.
+        from_some_closes names FineCall (between 1 255 (number_arg n)) WrongArguments at _ (λ n is. accepted_closes names FineCall (make n, []) (record { func = fine n; arguments = refl })));
   }
 
   with_literal_closes : (read : Known → Place → Word → Checked Func) → ((at : Place) (w : Word) → Closes names FineFunc (read known at w)) → FormCloses (with_literal read)
   with_literal_closes read reads = record {
-    reads = λ at args. from_some_closes names FineCall (one_arg args) 8 at _ (λ a e. from_some_closes names FineCall (literal a) 8 at _ (λ w is.
+    reads = λ at args. from_some_closes names FineCall (one_arg args) WrongArguments at _ (λ a e. from_some_closes names FineCall (literal a) WrongArguments at _ (λ w is.
         one_closes names (λ f. (f, [])) FineFunc FineCall (λ f fine. record { func = fine; arguments = refl }) (read known at w) (reads at w)));
   }
 
@@ -155,12 +156,12 @@ module _ (names : Names) (known : Known) (are : AreKnown names known) where
   taking_table_closes make fine = with_literal_closes _ (λ at w. one_closes names make (IsTable names) FineFunc fine (table_number known w.at w.text) (table_number_closes w.at w.text))
 
   pub taking_table_pattern_closes : (make : ℕ → ℕ → Func) → ((t p : ℕ) → IsTable names t → IsPattern p → FineFunc (make t p)) → FormCloses (taking_table_pattern make)
-  taking_table_pattern_closes make fine = with_literal_closes _ (λ at w. from_some_closes names FineFunc (table_and_key w.text) 8 at _ (λ split e.
+  taking_table_pattern_closes make fine = with_literal_closes _ (λ at w. from_some_closes names FineFunc (table_and_key w.text) WrongArguments at _ (λ split e.
       both_closes names make (IsTable names) IsPattern FineFunc fine (table_number known w.at split.0) (pattern_number w.at split.1) (table_number_closes w.at split.0) (pattern_number_closes w.at split.1)))
 
   pub taking_removable_closes : (make : List ℕ → Func) → ((name : List ℕ) → FineFunc (make name)) → FormCloses (taking_removable make)
   taking_removable_closes make fine = with_literal_closes _ (λ at w.
-      if_closes names FineFunc (list_any (str_eq_ignore_ascii_case w.text) needed_fields) (refused 8 at) (accepted (make w.text)) (refused_closes names FineFunc 8 at)
+      if_closes names FineFunc (list_any (str_eq_ignore_ascii_case w.text) needed_fields) (refused WrongArguments at) (accepted (make w.text)) (refused_closes names FineFunc WrongArguments at)
       (accepted_closes names FineFunc (make w.text) (fine w.text)))
 
   abbrev FineArguments : List (List Part) → Type 0
@@ -168,7 +169,7 @@ module _ (names : Names) (known : Known) (are : AreKnown names known) where
 
   pub continuing_closes : (make : ℕ → Func) → ((b : ℕ) → IsBlock Route b → FineFunc (make b)) → FormCloses (continuing make)
   continuing_closes make fine = record {
-    reads = λ at args. from_some_closes names FineCall (three_args args) 8 at _ (λ all e. from_some_closes names FineCall (literal all.2) 8 at _ (λ w is.
+    reads = λ at args. from_some_closes names FineCall (three_args args) WrongArguments at _ (λ all e. from_some_closes names FineCall (literal all.2) WrongArguments at _ (λ w is.
         both_closes names (λ ps b. (make b, ps)) FineArguments (IsBlock Route) FineCall (λ ps b fps ib. record { func = fine b ib; arguments = fps })
         (both (λ p q. p ∷ q ∷ []) (expanded_arg known all.0) (expanded_arg known all.1)) (block_number known Route w)
         (both_closes names (λ p q. p ∷ q ∷ []) (FineParts names) (FineParts names) FineArguments two_arguments (expanded_arg known all.0) (expanded_arg known all.1) (expanded_closes all.0) (expanded_closes all.1))
@@ -176,9 +177,9 @@ module _ (names : Names) (known : Known) (are : AreKnown names known) where
   }
 
   logging_reads : (f : Func) → FineFunc f → (at : Place) (args : List RawArg) → Closes names FineCall (logging f known at args)
-  logging_reads f fine at [] = refused_closes names FineCall 8 at
+  logging_reads f fine at [] = refused_closes names FineCall WrongArguments at
   logging_reads f fine at (x ∷ []) = expanding_reads f fine at (x ∷ [])
-  logging_reads f fine at (level ∷ x ∷ more) = from_some_closes names FineCall (literal level) 8 at _ (λ w e. expanding_reads f fine at (x ∷ more))
+  logging_reads f fine at (level ∷ x ∷ more) = from_some_closes names FineCall (literal level) WrongArguments at _ (λ w e. expanding_reads f fine at (x ∷ more))
 
   pub logging_closes : (f : Func) → FineFunc f → FormCloses (logging f)
   logging_closes f fine = record { reads = logging_reads f fine }
@@ -213,5 +214,5 @@ module _ (names : Names) (known : Known) (are : AreKnown names known) where
   form_closes name.ShtReset = taking_table_closes func.ShtReset (λ t is. is)
 
   pub function_call_closes : (kind : RouteKind) (w : Word) (args : List RawArg) → Closes names FineCall (function_call known kind w args)
-  function_call_closes kind w args = from_some_closes names FineCall (function_named w.text) 6 w.at _ (λ f e.
-      unless_closes names FineCall (if may_stand f kind then None else Some (record { kind = 7; at = w.at })) (form f known w.at args) ((form_closes f).reads w.at args))
+  function_call_closes kind w args = from_some_closes names FineCall (function_named w.text) UnknownFunction w.at _ (λ f e.
+      unless_closes names FineCall (if may_stand f kind then None else Some (refusal WrongBlock w.at)) (form f known w.at args) ((form_closes f).reads w.at args))

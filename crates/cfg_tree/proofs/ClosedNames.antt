@@ -17,8 +17,9 @@ use Rattle.cfg_tree.specs.declared.script.Part.TheFolds.{fold-roll-Part, map-Par
 use Rattle.cfg_tree.specs.Variables.{Piece, Plain, Of, pieces_of}
 use Rattle.cfg_tree.specs.Names.{Known, named, host_names, table_names, suspension_names, transformation_names, var_number, some_text, avp_name, table_and_key, Layer, host_layer, item_layer, bare_layer, inner_layer, untransformed, transformed_layer, layer_by, piece_part, plain_part, expansion_within, max_nested, expansion, layer_of, part_of}
 use Rattle.cfg_tree.specs.Refusals.{Seen, Outcome, Checked, accepted, from_some, each}
-use Rattle.cfg_tree.specs.Closed.{Names, closed_use, all_true, part_step, closed_part, closed_parts}
+use Rattle.cfg_tree.specs.Closed.{Names, closed_use, all_closed, closed_part_step, closed_part, closed_parts}
 use Rattle.cfg_tree.proofs.Closing.{Within, Gives, Closes, Every, accepted_closes, refused_closes, one_closes, both_closes, all_closes, map_closes, from_some_closes, if_closes, named_closes}
+use Rattle.cfg_tree.specs.declared.refusal_kind.RefusalKind.TheVariants.{UnknownVariable}
 
 -- the place of one that passes is below the length
 pub position_below : {X : Type 0} (p : X → Bool) (xs : List X) (n : ℕ) → position p xs ≡ Some n → n < length xs
@@ -26,7 +27,7 @@ position_below p [] n e = absurd (let e : None ≡ Some n = e in cc)
 position_below p (x ∷ xs) n e = (position-Some p (x ∷ xs) n x e).0
 
 -- a test of each of a list, and of what is made of each
-pub all_mapped : {A : Type 0} (f : A → Bool) (xs : List A) → all_true (map f xs) ≡ list_all f xs
+pub all_mapped : {A : Type 0} (f : A → Bool) (xs : List A) → all_closed (map f xs) ≡ list_all f xs
 all_mapped f [] = refl
 all_mapped f (x ∷ xs) = ap (λ b. f x && b) (all_mapped f xs)
 
@@ -70,8 +71,8 @@ module _ (names : Names) where
   FineParts ps = closed_parts names ps ≡ true
 
   -- what a layer says, of the layers in it
-  rolled : (x : Layer) → part_step names (map-Part Part Bool (closed_part names) x) ≡ true → FineLayer x
-  rolled x e = fold-roll-Part Bool (part_step names) x ∙ e
+  rolled : (x : Layer) → closed_part_step names (map-Part Part Bool (closed_part names) x) ≡ true → FineLayer x
+  rolled x e = fold-roll-Part Bool (closed_part_step names) x ∙ e
 
   pub text_fine : (t : List ℕ) → FinePart (roll-Part (Part-F.Text t))
   text_fine t = rolled (Part-F.Text t) refl
@@ -97,7 +98,7 @@ module _ (names : Names) where
   bare_closes at name =
       let code = accepted_closes names FineLayer Part-F.Code (rolled Part-F.Code refl) in
       if_closes names FineLayer (bytes_eq name (codes "rc")) _ _ code (if_closes names FineLayer (bytes_eq name (codes "retcode")) _ _ code
-      (named_closes names FineLayer name host_names 9 at host_layer (hosts_are host_names refl)))
+      (named_closes names FineLayer name host_names UnknownVariable at host_layer (hosts_are host_names refl)))
 
   module _ (known : Known) (tables : length known.tables ≤ names.tables) where
     pub table_fine : (name : List ℕ) (t : ℕ) → position (bytes_eq name) known.tables ≡ Some t → IsTable t
@@ -108,19 +109,19 @@ module _ (names : Names) where
     Expands expand = (text : List ℕ) → Closes names FineParts (expand text)
 
     item_closes : (expand : List ℕ → Checked (List Part)) → Expands expand → (at : Place) (way : TableUse) (inner : List ℕ) → Closes names FineLayer (item_layer known expand at way inner)
-    item_closes expand ex at way inner = from_some_closes names FineLayer (table_and_key inner) 9 at _ (λ split e.
-        from_some_closes names FineLayer (position (bytes_eq split.0) known.tables) 9 at _ (λ t is.
+    item_closes expand ex at way inner = from_some_closes names FineLayer (table_and_key inner) UnknownVariable at _ (λ split e.
+        from_some_closes names FineLayer (position (bytes_eq split.0) known.tables) UnknownVariable at _ (λ t is.
         one_closes names (λ key. Part-F.Item way t key) FineParts FineLayer
         (λ key fine. rolled (Part-F.Item way t key) (and_from _ _ (table_fine split.0 t is) (all_mapped (closed_part names) key ∙ fine))) (expand split.1) (ex split.1)))
 
     inner_closes : (expand : List ℕ → Checked (List Part)) → Expands expand → (at : Place) (name inner : List ℕ) → Closes names FineLayer (inner_layer known expand at name inner)
     inner_closes expand ex at name inner =
         if_closes names FineLayer (bytes_eq name (codes "var")) _ _
-        (from_some_closes names FineLayer (some_text inner) 9 at _ (λ n e. one_closes names (λ x. Part-F.Var x) IsVar FineLayer (λ x is. rolled (Part-F.Var x) is) (var_number n) (var_number_closes n)))
-        (if_closes names FineLayer (bytes_eq name (codes "avp")) _ _ (from_some_closes names FineLayer (avp_name inner) 9 at _ (λ n e. host_closes (pv.Avp n) refl))
-        (if_closes names FineLayer (bytes_eq name (codes "hdr")) _ _ (from_some_closes names FineLayer (some_text inner) 9 at _ (λ n e. host_closes (pv.Header n) refl))
-        (if_closes names FineLayer (bytes_eq name (codes "T")) _ _ (named_closes names FineLayer inner suspension_names 9 at host_layer (hosts_are suspension_names refl))
-        (from_some_closes names FineLayer (named name table_names) 9 at _ (λ way e. item_closes expand ex at way inner)))))
+        (from_some_closes names FineLayer (some_text inner) UnknownVariable at _ (λ n e. one_closes names (λ x. Part-F.Var x) IsVar FineLayer (λ x is. rolled (Part-F.Var x) is) (var_number n) (var_number_closes n)))
+        (if_closes names FineLayer (bytes_eq name (codes "avp")) _ _ (from_some_closes names FineLayer (avp_name inner) UnknownVariable at _ (λ n e. host_closes (pv.Avp n) refl))
+        (if_closes names FineLayer (bytes_eq name (codes "hdr")) _ _ (from_some_closes names FineLayer (some_text inner) UnknownVariable at _ (λ n e. host_closes (pv.Header n) refl))
+        (if_closes names FineLayer (bytes_eq name (codes "T")) _ _ (named_closes names FineLayer inner suspension_names UnknownVariable at host_layer (hosts_are suspension_names refl))
+        (from_some_closes names FineLayer (named name table_names) UnknownVariable at _ (λ way e. item_closes expand ex at way inner)))))
 
     untransformed_closes : (expand : List ℕ → Checked (List Part)) → Expands expand → (at : Place) (v : Variable) (o : Option (List ℕ)) → Closes names FineLayer (untransformed known expand at v o)
     untransformed_closes expand ex at v None = bare_closes at v.name
@@ -130,8 +131,8 @@ module _ (names : Names) where
     transformed_closes at layer cl None = cl
     transformed_closes at layer cl (Some name) =
         both_closes names (λ p tr. Part-F.Transformed tr (roll-Part p)) FineLayer (λ _. Unit {0}) FineLayer (λ p tr fine _. rolled (Part-F.Transformed tr (roll-Part p)) fine)
-        layer (from_some (named name transformation_names) 9 at accepted) cl
-        (from_some_closes names (λ _. Unit {0}) (named name transformation_names) 9 at accepted (λ tr e. accepted_closes names (λ _. Unit {0}) tr tt))
+        layer (from_some (named name transformation_names) UnknownVariable at accepted) cl
+        (from_some_closes names (λ _. Unit {0}) (named name transformation_names) UnknownVariable at accepted (λ tr e. accepted_closes names (λ _. Unit {0}) tr tt))
 
     layer_by_closes : (expand : List ℕ → Checked (List Part)) → Expands expand → (at : Place) (v : Variable) → Closes names FineLayer (layer_by known expand at v)
     layer_by_closes expand ex at v = transformed_closes at (untransformed known expand at v v.inner) (untransformed_closes expand ex at v v.inner) v.transformation
@@ -142,15 +143,15 @@ module _ (names : Names) where
 
     plain_closes : (at : Place) (p : Piece) → Closes names FinePart (plain_part at p)
     plain_closes at (Plain t) = accepted_closes names FinePart (roll-Part (Part-F.Text t)) (text_fine t)
-    plain_closes at (Of v) = refused_closes names FinePart 9 at
+    plain_closes at (Of v) = refused_closes names FinePart UnknownVariable at
 
     parts_close : {X : Type 0} (f : X → Checked Part) → ((x : X) → Closes names FinePart (f x)) → (xs : List X) → Closes names FineParts (each (map f xs))
     parts_close f each_is xs = all_closes names (closed_part names) (map f xs) (map_closes names FinePart f each_is xs)
 
     expansion_within_closes : (depth : ℕ) (at : Place) (text : List ℕ) → Closes names FineParts (expansion_within depth known at text)
     unfolding expansion_within
-    expansion_within_closes zero at text = from_some_closes names FineParts (pieces_of text) 9 at _ (λ pieces e. parts_close (plain_part at) (plain_closes at) pieces)
-    expansion_within_closes (suc depth) at text = from_some_closes names FineParts (pieces_of text) 9 at _ (λ pieces e.
+    expansion_within_closes zero at text = from_some_closes names FineParts (pieces_of text) UnknownVariable at _ (λ pieces e. parts_close (plain_part at) (plain_closes at) pieces)
+    expansion_within_closes (suc depth) at text = from_some_closes names FineParts (pieces_of text) UnknownVariable at _ (λ pieces e.
         parts_close (piece_part known (expansion_within depth known at) at) (piece_closes (expansion_within depth known at) (expansion_within_closes depth at) at) pieces)
 
     pub expansion_closes : (at : Place) (text : List ℕ) → Closes names FineParts (expansion known at text)

@@ -15,7 +15,7 @@ use Rattle.cfg_tree.specs.Functions.{kind_number, is_same_name, is_same_block}
 use Rattle.cfg_tree.specs.Settings.{settings_of, parameters_of}
 use Rattle.cfg_tree.specs.Checks.{body_in, bodies_in, blocks_of, block_name, known_of, nothing_seen, bodies_of, unnamed, script_with, script_of}
 use Rattle.cfg_tree.specs.Refusals.{Seen, Checked, each}
-use Rattle.cfg_tree.specs.Closed.{Names, closed_block, closed_reply, closed_in, names_with, is_below, is_kind, is_block_of, kinds_of, IsClosed, IsClosedWith}
+use Rattle.cfg_tree.specs.Closed.{Names, closed_block, closed_reply, closed_in, names_with, is_below, is_kind, is_block_of, block_kinds, IsClosed, IsClosedWith}
 use Rattle.cfg_tree.proofs.Closing.{Within, Closes, join_fine, all_closes, map_closes}
 use Rattle.cfg_tree.proofs.ClosedNames.{position_below}
 use Rattle.cfg_tree.proofs.ClosedFunctions.{AreKnown}
@@ -110,9 +110,9 @@ kind_is (x ∷ xs) kind name b e =
     let got : slice_get (map (λ b. b.0) (x ∷ xs)) b ≡ Some y.0 = slice_get-map (λ b. b.0) (x ∷ xs) b ∙ ap (option_map (λ b. b.0)) (slice_get-get_or (x ∷ xs) b x at.0) in
     ap (is_kind kind) got ∙ (and_parts (kind_number kind == kind_number y.0) (is_same_name name y.1) at.1).0
 
-pub script_has_kinds : (raw : RawScript) (script : Script) → script_of raw ≡ Some script → IsClosedWith (kinds_of raw) script
+pub script_has_kinds : (raw : RawScript) (script : Script) → script_of raw ≡ Some script → IsClosedWith (block_kinds raw) script
 unfolding script_of
-script_has_kinds raw script e = script_from raw (IsClosedWith (kinds_of raw)) (bodies_of raw).value (unnamed Request raw) script (λ b n bodies request. record {
+script_has_kinds raw script e = script_from raw (IsClosedWith (block_kinds raw)) (bodies_of raw).value (unnamed Request raw) script (λ b n bodies request. record {
   each_has = length-map (known_of raw).blocks (λ b. b.0) ∙ sym (made_length raw b bodies);
-  closed = made_closed raw (is_block_of (kinds_of raw)) (λ kind name i found. kind_is (known_of raw).blocks kind name i found) b n bodies request;
+  closed = made_closed raw (is_block_of (block_kinds raw)) (λ kind name i found. kind_is (known_of raw).blocks kind name i found) b n bodies request;
 }) e

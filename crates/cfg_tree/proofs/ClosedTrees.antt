@@ -1,5 +1,5 @@
 -- An expression or a statement that is read names what is there.
-use Rattle.std.proofs.Common.{◌≡◌, ℕ, ◌+◌, Bool, true, false, nat_le, nat_lt, ◌&&◌, if◌then◌else◌, List, [], ◌∷◌, ◌++◌, map, IfSome, Option, Some, None, refl, sym, ap, ◌∙◌, subst}
+use Rattle.std.proofs.Common.{◌≡◌, ◌+◌, Bool, true, false, nat_le, nat_lt, ◌&&◌, if◌then◌else◌, List, [], ◌∷◌, ◌++◌, map, IfSome, Option, Some, None, refl, sym, ap, ◌∙◌, subst}
 use Rattle.std.specs.List.{list_all}
 use Rattle.std.proofs.lemmas.Bool.{and_from, and_parts}
 use Rattle.pv_values.specs.declared.value.Val.{Val}
@@ -37,12 +37,14 @@ use Rattle.cfg_tree.specs.Meaning.{item_of}
 use Rattle.cfg_tree.specs.Names.{Known, Layer, layer_of, part_of}
 use Rattle.cfg_tree.specs.Functions.{function_call, block_number, pattern_number}
 use Rattle.cfg_tree.specs.Checks.{call_in, myself, expr_step, expr_in, may_write, target_in, found_as, found, target_of, numbered, flat, all_in, maybe_expr, stmt_step, stmt_in, body_in}
-use Rattle.cfg_tree.specs.Refusals.{Refusal, Seen, Checked, accepted, one, each}
+use Rattle.cfg_tree.specs.Refusals.{refusal, Refusal, Seen, Checked, accepted, one, each}
 use Rattle.cfg_tree.specs.Closed as closed
-use Rattle.cfg_tree.specs.Closed.{Names, all_true, closed_part, closed_parts, closed_expr, closed_target, closed_result, closed_stmt, closed_block}
+use Rattle.cfg_tree.specs.Closed.{Names, all_closed, closed_part, closed_parts, closed_expr, closed_target, closed_result, closed_stmt, closed_block}
 use Rattle.cfg_tree.proofs.Closing.{Within, Closes, AllClose, accepted_closes, one_closes, both_closes, three_closes, each_closes, all_closes, map_closes, unless_closes}
 use Rattle.cfg_tree.proofs.ClosedNames.{all_mapped, FineLayer, FinePart, layer_of_closes, part_of_closes}
 use Rattle.cfg_tree.proofs.ClosedFunctions.{AreKnown, FineCall, block_number_closes, pattern_number_closes, function_call_closes}
+use Rattle.cfg_tree.specs.declared.refusal_kind.RefusalKind.{RefusalKind}
+use Rattle.cfg_tree.specs.declared.refusal_kind.RefusalKind.TheVariants.{NotWritable, TooLarge}
 
 module _ (names : Names) where
   abbrev FineExpr : Expr → Type 0
@@ -52,10 +54,10 @@ module _ (names : Names) where
   FineExprs es = list_all (closed_expr names) es ≡ true
 
   -- what an expression says, of those in it
-  expr_rolled : (x : Expr-F Expr) → closed.expr_step names (map-Expr Expr Bool (closed_expr names) x) ≡ true → FineExpr (roll-Expr x)
-  expr_rolled x e = fold-roll-Expr Bool (closed.expr_step names) x ∙ e
+  expr_rolled : (x : Expr-F Expr) → closed.closed_expr_step names (map-Expr Expr Bool (closed_expr names) x) ≡ true → FineExpr (roll-Expr x)
+  expr_rolled x e = fold-roll-Expr Bool (closed.closed_expr_step names) x ∙ e
 
-  members_rolled : (es : List Expr) → FineExprs es → all_true (map (closed_expr names) es) ≡ true
+  members_rolled : (es : List Expr) → FineExprs es → all_closed (map (closed_expr names) es) ≡ true
   members_rolled es e = all_mapped (closed_expr names) es ∙ e
 
   -- operands, each with the operator before it
@@ -63,7 +65,7 @@ module _ (names : Names) where
   FineLinks ls = list_all (λ (l : BinOp × Bool). l.1) (map (λ (l : BinOp × Expr). (l.0, closed_expr names l.1)) ls) ≡ true
 
   read_myself : FineExpr (myself true)
-  read_myself = expr_rolled (Expr-F.Read (roll-Part (Part-F.Host Myself))) (fold-roll-Part Bool (closed.part_step names) (Part-F.Host Myself))
+  read_myself = expr_rolled (Expr-F.Read (roll-Part (Part-F.Host Myself))) (fold-roll-Part Bool (closed.closed_part_step names) (Part-F.Host Myself))
 
   myself_fine : (is : Bool) → FineExpr (myself is)
   myself_fine true = read_myself
@@ -75,14 +77,14 @@ module _ (names : Names) where
   abbrev pub FineStmts : List Stmt → Type 0
   FineStmts ss = list_all (closed_stmt names) ss ≡ true
 
-  stmt_rolled : (x : Stmt-F Stmt) → closed.stmt_step names (map-Stmt Stmt Bool (closed_stmt names) x) ≡ true → FineStmts (roll-Stmt x ∷ [])
-  stmt_rolled x e = and_from (closed_stmt names (roll-Stmt x)) true (fold-roll-Stmt Bool (closed.stmt_step names) x ∙ e) refl
+  stmt_rolled : (x : Stmt-F Stmt) → closed.closed_stmt_step names (map-Stmt Stmt Bool (closed_stmt names) x) ≡ true → FineStmts (roll-Stmt x ∷ [])
+  stmt_rolled x e = and_from (closed_stmt names (roll-Stmt x)) true (fold-roll-Stmt Bool (closed.closed_stmt_step names) x ∙ e) refl
 
-  stmts_rolled : (ss : List Stmt) → FineStmts ss → all_true (map (closed_stmt names) ss) ≡ true
+  stmts_rolled : (ss : List Stmt) → FineStmts ss → all_closed (map (closed_stmt names) ss) ≡ true
   stmts_rolled ss e = all_mapped (closed_stmt names) ss ∙ e
 
   abbrev FineCases : List (Val × List Stmt) → Type 0
-  FineCases cs = list_all (λ (c : Val × List Bool). all_true c.1) (map (λ (c : Val × List Stmt). (c.0, map (closed_stmt names) c.1)) cs) ≡ true
+  FineCases cs = list_all (λ (c : Val × List Bool). all_closed c.1) (map (λ (c : Val × List Stmt). (c.0, map (closed_stmt names) c.1)) cs) ≡ true
 
   abbrev FineTarget : Target → Type 0
   FineTarget t = closed_target names t ≡ true
@@ -108,7 +110,7 @@ module _ (names : Names) where
   numbered_closes : (at : Place) (m : Checked (List Stmt)) → Closes names FineStmts m → Closes names FineStmts (numbered at m)
   numbered_closes at m cm = record {
     after = λ s within.
-        let g = (unless_closes names FineStmts (if nat_le 50000 s.statements then Some (record { kind = 13; at = at }) else None) m cm).after (record s { statements = s.statements + 1 }) within in
+        let g = (unless_closes names FineStmts (if nat_le 50000 s.statements then Some (refusal TooLarge at) else None) m cm).after (record s { statements = s.statements + 1 }) within in
         record { before = record { patterns = g.before.patterns; vars = g.before.vars }; fine = g.fine };
   }
 
@@ -120,28 +122,28 @@ module _ (names : Names) where
 
   target_fine : (kind : RouteKind) (x : Layer) → FineLayer names x → IfSome (target_in kind x) FineTarget
   target_fine kind (Part-F.Text t) e = tt
-  target_fine kind (Part-F.Var x) e = sym (fold-roll-Part Bool (closed.part_step names) (Part-F.Var x)) ∙ e
+  target_fine kind (Part-F.Var x) e = sym (fold-roll-Part Bool (closed.closed_part_step names) (Part-F.Var x)) ∙ e
   target_fine kind Part-F.Code e = tt
-  target_fine kind (Part-F.Host x) e = if_fine (may_write kind x) (target.Host x) (sym (fold-roll-Part Bool (closed.part_step names) (Part-F.Host x)) ∙ e)
+  target_fine kind (Part-F.Host x) e = if_fine (may_write kind x) (target.Host x) (sym (fold-roll-Part Bool (closed.closed_part_step names) (Part-F.Host x)) ∙ e)
   target_fine kind (Part-F.Item way t key) e =
       if_fine (may_write kind (item_of way t [])) (target.Item way t key)
-      (ap (λ b. nat_lt t names.tables && b) (sym (all_mapped (closed_part names) key)) ∙ sym (fold-roll-Part Bool (closed.part_step names) (Part-F.Item way t key)) ∙ e)
+      (ap (λ b. nat_lt t names.tables && b) (sym (all_mapped (closed_part names) key)) ∙ sym (fold-roll-Part Bool (closed.closed_part_step names) (Part-F.Item way t key)) ∙ e)
   target_fine kind (Part-F.Transformed tr p) e = tt
 
-  found_as_fine : (refusal_kind : ℕ) (at : Place) (rs : List Refusal) (s : Seen) (o : Option Target) → IfSome o FineTarget → IfSome (found_as refusal_kind at rs s o).value FineTarget
+  found_as_fine : (refusal_kind : RefusalKind) (at : Place) (rs : List Refusal) (s : Seen) (o : Option Target) → IfSome o FineTarget → IfSome (found_as refusal_kind at rs s o).value FineTarget
   found_as_fine k at rs s None e = tt
   found_as_fine k at rs s (Some t) e = e
 
-  found_as_seen : (refusal_kind : ℕ) (at : Place) (rs : List Refusal) (s : Seen) (o : Option Target) → (found_as refusal_kind at rs s o).seen ≡ s
+  found_as_seen : (refusal_kind : RefusalKind) (at : Place) (rs : List Refusal) (s : Seen) (o : Option Target) → (found_as refusal_kind at rs s o).seen ≡ s
   found_as_seen k at rs s None = refl
   found_as_seen k at rs s (Some t) = refl
 
-  found_fine : (refusal_kind : ℕ) (at : Place) (f : Layer → Option Target) → ((x : Layer) → FineLayer names x → IfSome (f x) FineTarget) → (rs : List Refusal) (s : Seen) (o : Option Layer) →
+  found_fine : (refusal_kind : RefusalKind) (at : Place) (f : Layer → Option Target) → ((x : Layer) → FineLayer names x → IfSome (f x) FineTarget) → (rs : List Refusal) (s : Seen) (o : Option Layer) →
       IfSome o (FineLayer names) → IfSome (found refusal_kind at f rs s o).value FineTarget
   found_fine k at f made rs s None e = tt
   found_fine k at f made rs s (Some x) e = found_as_fine k at rs s (f x) (made x e)
 
-  found_seen : (refusal_kind : ℕ) (at : Place) (f : Layer → Option Target) (rs : List Refusal) (s : Seen) (o : Option Layer) → (found refusal_kind at f rs s o).seen ≡ s
+  found_seen : (refusal_kind : RefusalKind) (at : Place) (f : Layer → Option Target) (rs : List Refusal) (s : Seen) (o : Option Layer) → (found refusal_kind at f rs s o).seen ≡ s
   found_seen k at f rs s None = refl
   found_seen k at f rs s (Some x) = found_as_seen k at rs s (f x)
 
@@ -150,9 +152,9 @@ module _ (names : Names) where
     target_closes kind v = record {
       after = λ s within.
           let read = layer_of known v.at v.variable s in
-          let same = found_seen 10 v.at (target_in kind) read.refusals read.seen read.value in
+          let same = found_seen NotWritable v.at (target_in kind) read.refusals read.seen read.value in
           let g = (layer_of_closes names known are.tables v.at v.variable).after s (subst (Within names) same within) in
-          record { before = g.before; fine = found_fine 10 v.at (target_in kind) (target_fine kind) read.refusals read.seen read.value g.fine };
+          record { before = g.before; fine = found_fine NotWritable v.at (target_in kind) (target_fine kind) read.refusals read.seen read.value g.fine };
     }
 
     -- ---- expressions
@@ -243,7 +245,7 @@ module _ (names : Names) where
     cases_fine : (cs : List (Checked (Val × List Stmt))) → AllClose names FineCase cs → Closes names FineCases (each cs)
     cases_fine cs all = each_closes names FineCase FineCases refl (λ c more p q. and_from _ _ (stmts_rolled c.1 p) q) cs all
 
-    plain_stmt : (x : Stmt-F Stmt) → closed.stmt_step names (map-Stmt Stmt Bool (closed_stmt names) x) ≡ true → Closes names FineStmts (accepted (roll-Stmt x ∷ []))
+    plain_stmt : (x : Stmt-F Stmt) → closed.closed_stmt_step names (map-Stmt Stmt Bool (closed_stmt names) x) ≡ true → Closes names FineStmts (accepted (roll-Stmt x ∷ []))
     plain_stmt x e = accepted_closes names FineStmts (roll-Stmt x ∷ []) (stmt_rolled x e)
 
     if_rolled : (e : Expr) (first second : List Stmt) → FineExpr e → FineStmts first → FineStmts second → FineStmts (roll-Stmt (Stmt-F.If e first second) ∷ [])

@@ -8,6 +8,7 @@ use Rattle.pv_values.specs.declared.refusal.Place.{Place}
 use Rattle.cfg_tree.specs.Names.{named}
 use Rattle.cfg_tree.specs.Closed.{Names}
 use Rattle.cfg_tree.specs.Refusals.{Refusal, Seen, Checked, accepted, refused, join, one, both, three, each, from_some, unless}
+use Rattle.cfg_tree.specs.declared.refusal_kind.RefusalKind.{RefusalKind}
 
 -- what was met is there
 pub record Within (names : Names) (seen : Seen) : Type 0 where
@@ -45,7 +46,7 @@ module _ (names : Names) where
   pub accepted_closes : {A : Type 0} (Fine : A → Type 0) (a : A) → Fine a → Closes names Fine (accepted a)
   accepted_closes Fine a fine = record { after = λ s within. record { before = within; fine = fine } }
 
-  pub refused_closes : {A : Type 0} (Fine : A → Type 0) (kind : ℕ) (at : Place) → Closes names Fine (refused kind at)
+  pub refused_closes : {A : Type 0} (Fine : A → Type 0) (kind : RefusalKind) (at : Place) → Closes names Fine (refused kind at)
   refused_closes Fine kind at = record { after = λ s within. record { before = within; fine = tt } }
 
   pub one_closes : {A B : Type 0} (f : A → B) (P : A → Type 0) (Q : B → Type 0) → ((a : A) → P a → Q (f a)) → (m : Checked A) → Closes names P m → Closes names Q (one f m)
@@ -85,7 +86,7 @@ module _ (names : Names) where
   all_closes test ms all =
       each_closes (λ a. test a ≡ true) (λ xs. list_all test xs ≡ true) refl (λ a more p q. and_from (test a) (list_all test more) p q) ms all
 
-  pub from_some_closes : {A B : Type 0} (P : B → Type 0) (o : Option A) (kind : ℕ) (at : Place) (next : A → Checked B) → ((a : A) → o ≡ Some a → Closes names P (next a)) →
+  pub from_some_closes : {A B : Type 0} (P : B → Type 0) (o : Option A) (kind : RefusalKind) (at : Place) (next : A → Checked B) → ((a : A) → o ≡ Some a → Closes names P (next a)) →
       Closes names P (from_some o kind at next)
   from_some_closes P None kind at next is = refused_closes P kind at
   from_some_closes P (Some a) kind at next is = is a refl
@@ -100,12 +101,12 @@ module _ (names : Names) where
 
   -- ---- a table of names
 
-  row_closes : {A B : Type 0} (P : B → Type 0) (b : Bool) (a : A) (o : Option A) (kind : ℕ) (at : Place) (next : A → Checked B) → Closes names P (next a) →
+  row_closes : {A B : Type 0} (P : B → Type 0) (b : Bool) (a : A) (o : Option A) (kind : RefusalKind) (at : Place) (next : A → Checked B) → Closes names P (next a) →
       Closes names P (from_some o kind at next) → Closes names P (from_some (if b then Some a else o) kind at next)
   row_closes P true a o kind at next here more = here
   row_closes P false a o kind at next here more = more
 
-  pub named_closes : {A B : Type 0} (P : B → Type 0) (name : List ℕ) (rows : List (List ℕ × A)) (kind : ℕ) (at : Place) (next : A → Checked B) →
+  pub named_closes : {A B : Type 0} (P : B → Type 0) (name : List ℕ) (rows : List (List ℕ × A)) (kind : RefusalKind) (at : Place) (next : A → Checked B) →
       Every (λ (row : List ℕ × A). Closes names P (next row.1)) rows → Closes names P (from_some (named name rows) kind at next)
   named_closes P name [] kind at next every = refused_closes P kind at
   named_closes P name (row ∷ rows) kind at next every =

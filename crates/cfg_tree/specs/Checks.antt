@@ -40,7 +40,10 @@ use Rattle.cfg_tree.specs.Meaning.{item_of}
 use Rattle.cfg_tree.specs.Names.{Known, Layer, layer_of, part_of}
 use Rattle.cfg_tree.specs.Functions.{function_call, block_number, pattern_number, is_same_block}
 use Rattle.cfg_tree.specs.Settings.{settings_of, setting_refusals, parameters_of}
-use Rattle.cfg_tree.specs.Refusals.{Refusal, Seen, Outcome, Checked, accepted, one, both, three, each, unless, IsFirst}
+use Rattle.cfg_tree.specs.Refusals.{Refusal, refusal, Seen, Outcome, Checked, accepted, one, both, three, each, unless, IsFirst}
+use Rattle.cfg_tree.specs.declared.refusal_kind.RefusalKind.{RefusalKind}
+use Rattle.cfg_tree.specs.declared.refusal_kind.RefusalKind.TheVariants.{Syntax, RouteTwice, NotWritable, TooLarge, NoRequestRoute}
+use Rattle.cfg_tree.specs.RefusalKinds.{refusal_number}
 
 -- ---- expressions
 
@@ -87,23 +90,23 @@ target_in kind (Part-F.Item way t key) = if may_write kind (item_of way t []) th
 target_in kind (Part-F.Transformed tr p) = None
 
 -- a value in which something is found, and else a refusal
-abbrev pub found_as : {B : Type 0} → ℕ → Place → List Refusal → Seen → Option B → Outcome B
-found_as kind at rs s None = record { refusals = rs ++ (record { kind = kind; at = at }) ∷ []; seen = s; value = None }
+abbrev pub found_as : {B : Type 0} → RefusalKind → Place → List Refusal → Seen → Option B → Outcome B
+found_as kind at rs s None = record { refusals = rs ++ refusal kind at ∷ []; seen = s; value = None }
 found_as kind at rs s (Some b) = record { refusals = rs; seen = s; value = Some b }
 
-abbrev pub found : {A B : Type 0} → ℕ → Place → (A → Option B) → List Refusal → Seen → Option A → Outcome B
+abbrev pub found : {A B : Type 0} → RefusalKind → Place → (A → Option B) → List Refusal → Seen → Option A → Outcome B
 found kind at f rs s None = record { refusals = rs; seen = s; value = None }
 found kind at f rs s (Some a) = found_as kind at rs s (f a)
 
 abbrev pub target_of : Known → RouteKind → RawVariable → Checked Target
 target_of known kind v seen =
     let read = layer_of known v.at v.variable seen in
-    found 10 v.at (target_in kind) read.refusals read.seen read.value
+    found NotWritable v.at (target_in kind) read.refusals read.seen read.value
 
 -- statements are counted as they begin, and there are 50,000 at most
 abbrev pub numbered : Place → Checked (List Stmt) → Checked (List Stmt)
 numbered at m seen =
-    unless (if nat_le 50000 seen.statements then Some (record { kind = 13; at = at }) else None) m
+    unless (if nat_le 50000 seen.statements then Some (refusal TooLarge at) else None) m
     (record seen { statements = seen.statements + 1 })
 
 abbrev pub flat : List (List Stmt) → List Stmt
@@ -166,11 +169,11 @@ name_place at (Some w) = w.at
 -- a second block of one kind and name
 abbrev pub twice : List (RouteKind × Option (List ℕ)) → RawBlock → List Refusal
 twice earlier b =
-    if list_any (is_same_block (block_name b)) earlier then (record { kind = 5; at = name_place b.kind_at b.name }) ∷ [] else []
+    if list_any (is_same_block (block_name b)) earlier then refusal RouteTwice (name_place b.kind_at b.name) ∷ [] else []
 
 -- the 1,001st block
 abbrev pub too_many : ℕ → RawBlock → List Refusal
-too_many number b = if nat_le 1000 number then (record { kind = 13; at = b.at }) ∷ [] else []
+too_many number b = if nat_le 1000 number then refusal TooLarge b.at ∷ [] else []
 
 abbrev pub block_refusals : List (RouteKind × Option (List ℕ)) → List RawBlock → List Refusal
 block_refusals earlier [] = []
@@ -203,7 +206,7 @@ abbrev pub unnamed : BlockKind → RawScript → Option ℕ
 unnamed kind raw = position (is_same_block (Begins kind, None)) (known_of raw).blocks
 
 abbrev pub no_request : RawScript → Option ℕ → List Refusal
-no_request raw None = (record { kind = 14; at = record { from = raw.end; to = raw.end } }) ∷ []
+no_request raw None = refusal NoRequestRoute (record { from = raw.end; to = raw.end }) ∷ []
 no_request raw (Some n) = []
 
 -- every refusal of a tree
@@ -254,4 +257,4 @@ IsUnderivable tokens end = (raw : RawScript) → ¬ (IsTreeOf tokens end raw)
 
 abbrev pub Refused : List Token → ℕ → ℕ → Place → Type 0
 Refused tokens end kind at =
-    ((kind ≡ 3) × IsUnderivable tokens end) ⊎ ((raw : RawScript) × IsTreeOf tokens end raw × IsRefused raw kind at)
+    ((kind ≡ refusal_number Syntax) × IsUnderivable tokens end) ⊎ ((raw : RawScript) × IsTreeOf tokens end raw × IsRefused raw kind at)

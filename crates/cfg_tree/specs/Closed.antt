@@ -56,38 +56,38 @@ closed_func names f = true
 
 -- ---- the language
 
-abbrev pub all_true : List Bool → Bool
-all_true = list_all (λ b. b)
+abbrev pub all_closed : List Bool → Bool
+all_closed = list_all (λ b. b)
 
-abbrev pub part_step : Names → Part-F Bool → Bool
-part_step names (Part-F.Text t) = true
-part_step names (Part-F.Var x) = nat_lt x names.vars
-part_step names Part-F.Code = true
-part_step names (Part-F.Host x) = closed_use names x
-part_step names (Part-F.Item way t key) = nat_lt t names.tables && all_true key
-part_step names (Part-F.Transformed tr p) = p
+abbrev pub closed_part_step : Names → Part-F Bool → Bool
+closed_part_step names (Part-F.Text t) = true
+closed_part_step names (Part-F.Var x) = nat_lt x names.vars
+closed_part_step names Part-F.Code = true
+closed_part_step names (Part-F.Host x) = closed_use names x
+closed_part_step names (Part-F.Item way t key) = nat_lt t names.tables && all_closed key
+closed_part_step names (Part-F.Transformed tr p) = p
 
 abbrev pub closed_part : Names → Part → Bool
-closed_part names = fold-Part Bool (part_step names)
+closed_part names = fold-Part Bool (closed_part_step names)
 
 abbrev pub closed_parts : Names → List Part → Bool
 closed_parts names = list_all (closed_part names)
 
-abbrev pub expr_step : Names → Expr-F Bool → Bool
-expr_step names (Expr-F.Int n) = true
-expr_step names (Expr-F.Text t) = true
-expr_step names (Expr-F.Read p) = closed_part names p
-expr_step names (Expr-F.Call f args) = closed_func names f && list_all (closed_parts names) args
-expr_step names (Expr-F.Route block) = names.has_block Route block
-expr_step names (Expr-F.Not a) = a
-expr_step names (Expr-F.Negative a) = a
-expr_step names (Expr-F.Chain a links) = a && list_all (λ (l : BinOp × Bool). l.1) links
-expr_step names (Expr-F.Matches a p) = a && nat_lt p names.patterns
-expr_step names (Expr-F.All ms) = all_true ms
-expr_step names (Expr-F.Any ms) = all_true ms
+abbrev pub closed_expr_step : Names → Expr-F Bool → Bool
+closed_expr_step names (Expr-F.Int n) = true
+closed_expr_step names (Expr-F.Text t) = true
+closed_expr_step names (Expr-F.Read p) = closed_part names p
+closed_expr_step names (Expr-F.Call f args) = closed_func names f && list_all (closed_parts names) args
+closed_expr_step names (Expr-F.Route block) = names.has_block Route block
+closed_expr_step names (Expr-F.Not a) = a
+closed_expr_step names (Expr-F.Negative a) = a
+closed_expr_step names (Expr-F.Chain a links) = a && list_all (λ (l : BinOp × Bool). l.1) links
+closed_expr_step names (Expr-F.Matches a p) = a && nat_lt p names.patterns
+closed_expr_step names (Expr-F.All ms) = all_closed ms
+closed_expr_step names (Expr-F.Any ms) = all_closed ms
 
 abbrev pub closed_expr : Names → Expr → Bool
-closed_expr names = fold-Expr Bool (expr_step names)
+closed_expr names = fold-Expr Bool (closed_expr_step names)
 
 abbrev pub closed_target : Names → Target → Bool
 closed_target names (target.Var x) = nat_lt x names.vars
@@ -98,20 +98,20 @@ abbrev pub closed_result : Names → Option Expr → Bool
 closed_result names None = true
 closed_result names (Some e) = closed_expr names e
 
-abbrev pub stmt_step : Names → Stmt-F Bool → Bool
-stmt_step names (Stmt-F.Set t e) = closed_target names t && closed_expr names e
-stmt_step names (Stmt-F.Do e) = closed_expr names e
-stmt_step names (Stmt-F.If e first other) = closed_expr names e && all_true first && all_true other
-stmt_step names (Stmt-F.While e body) = closed_expr names e && all_true body
-stmt_step names (Stmt-F.Switch e cases default) =
-    closed_expr names e && list_all (λ (c : Val × List Bool). all_true c.1) cases && all_true default
-stmt_step names Stmt-F.Break = true
-stmt_step names (Stmt-F.Return e) = closed_result names e
-stmt_step names Stmt-F.Exit = true
-stmt_step names Stmt-F.Drop = true
+abbrev pub closed_stmt_step : Names → Stmt-F Bool → Bool
+closed_stmt_step names (Stmt-F.Set t e) = closed_target names t && closed_expr names e
+closed_stmt_step names (Stmt-F.Do e) = closed_expr names e
+closed_stmt_step names (Stmt-F.If e first other) = closed_expr names e && all_closed first && all_closed other
+closed_stmt_step names (Stmt-F.While e body) = closed_expr names e && all_closed body
+closed_stmt_step names (Stmt-F.Switch e cases default) =
+    closed_expr names e && list_all (λ (c : Val × List Bool). all_closed c.1) cases && all_closed default
+closed_stmt_step names Stmt-F.Break = true
+closed_stmt_step names (Stmt-F.Return e) = closed_result names e
+closed_stmt_step names Stmt-F.Exit = true
+closed_stmt_step names Stmt-F.Drop = true
 
 abbrev pub closed_stmt : Names → Stmt → Bool
-closed_stmt names = fold-Stmt Bool (stmt_step names)
+closed_stmt names = fold-Stmt Bool (closed_stmt_step names)
 
 abbrev pub closed_block : Names → List Stmt → Bool
 closed_block names = list_all (closed_stmt names)
@@ -159,8 +159,8 @@ pub record IsClosedWith (kinds : List RouteKind) (script : Script) : Type 0 wher
   pub closed : IsTrue (closed_in (names_with (is_block_of kinds) script) script)
 
 -- the kinds of a tree's blocks, in order
-abbrev pub kinds_of : RawScript → List RouteKind
-kinds_of raw = map (λ b. b.0) (known_of raw).blocks
+abbrev pub block_kinds : RawScript → List RouteKind
+block_kinds raw = map (λ b. b.0) (known_of raw).blocks
 
 -- ---- what a run asks
 

@@ -21,7 +21,9 @@ use Rattle.cfg_tree.specs.declared.script.Part.TheOpen.{Part-F}
 use Rattle.cfg_tree.specs.declared.script.Part.TheViews.{roll-Part}
 use Rattle.cfg_tree.specs.Names.{Known, expansion, part_of, table_and_key}
 use Rattle.cfg_tree.specs.Variables.{begins_with}
-use Rattle.cfg_tree.specs.Refusals.{Checked, accepted, refused, one, both, from_some, unless}
+use Rattle.cfg_tree.specs.Refusals.{Checked, refusal, accepted, refused, one, both, from_some, unless}
+use Rattle.cfg_tree.specs.declared.refusal_kind.RefusalKind.TheVariants.{UnknownRoute, UnknownFunction, WrongBlock, WrongArguments, UnknownVariable, BadPattern, TooLarge}
+use Rattle.cfg_tree.specs.ByteNames.{ZERO}
 
 -- a function with its literal arguments, and the parts of its expanded ones
 abbrev pub FuncWith : Type 0
@@ -44,7 +46,7 @@ literal (arg.Variable v) = None
 -- plain decimal: digits without a leading zero
 abbrev pub plain_decimal : List ℕ → Option ℕ
 plain_decimal text =
-    if is_numeral text && (not (begins_with 48 text) || (length text == 1)) then Some (digits_value 10 text) else None
+    if is_numeral text && (not (begins_with ZERO text) || (length text == 1)) then Some (digits_value 10 text) else None
 
 abbrev pub not_below_0 : ℤ → Option ℕ
 not_below_0 (pos n) = Some n
@@ -79,17 +81,17 @@ abbrev pub is_same_block : RouteKind × Option (List ℕ) → RouteKind × Optio
 is_same_block a b = (kind_number a.0 == kind_number b.0) && is_same_name a.1 b.1
 
 abbrev pub block_number : Known → RouteKind → Word → Checked ℕ
-block_number known kind w = from_some (position (is_same_block (kind, Some w.text)) known.blocks) 4 w.at accepted
+block_number known kind w = from_some (position (is_same_block (kind, Some w.text)) known.blocks) UnknownRoute w.at accepted
 
 -- the number of a table
 abbrev pub table_number : Known → Place → List ℕ → Checked ℕ
-table_number known at name = from_some (position (bytes_eq name) known.tables) 9 at accepted
+table_number known at name = from_some (position (bytes_eq name) known.tables) UnknownVariable at accepted
 
 -- the number of a pattern: patterns are numbered as they are met, and there are 64 at most
 abbrev pub pattern_number : Place → List ℕ → Checked ℕ
 pattern_number at source seen =
-    if not (is_pattern source) then refused 12 at seen
-    else if nat_le 64 (length seen.patterns) then refused 13 at seen
+    if not (is_pattern source) then refused BadPattern at seen
+    else if nat_le 64 (length seen.patterns) then refused TooLarge at seen
     else accepted (length seen.patterns) (record seen { patterns = seen.patterns ++ source ∷ [] })
 
 -- ---- forms of arguments; what has another form is refused at the function's name
@@ -121,15 +123,15 @@ Form = Known → Place → List RawArg → Checked FuncWith
 
 -- (): no argument
 abbrev pub plain : Func → Form
-plain f known at args = from_some (no_arg args) 8 at (λ _. accepted (f, []))
+plain f known at args = from_some (no_arg args) WrongArguments at (λ _. accepted (f, []))
 
 -- (x): one that is expanded
 abbrev pub expanding : Func → Form
-expanding f known at args = from_some (one_arg args) 8 at (λ x. one (λ p. (f, p ∷ [])) (expanded_arg known x))
+expanding f known at args = from_some (one_arg args) WrongArguments at (λ x. one (λ p. (f, p ∷ [])) (expanded_arg known x))
 
 -- (x, x)
 abbrev pub expanding_two : Func → Form
-expanding_two f known at args = from_some (two_args args) 8 at (λ (x, y).
+expanding_two f known at args = from_some (two_args args) WrongArguments at (λ (x, y).
     both (λ p q. (f, p ∷ q ∷ [])) (expanded_arg known x) (expanded_arg known y))
 
 -- ([x])
@@ -139,16 +141,16 @@ expanding_maybe f known at (a ∷ more) = expanding f known at (a ∷ more)
 
 -- (code, x reason): 100 to 699
 abbrev pub replying : (ℕ → Func) → Form
-replying make known at args = from_some (two_args args) 8 at (λ (c, x). from_some (between 100 699 (number_arg c)) 8 at (λ code.
+replying make known at args = from_some (two_args args) WrongArguments at (λ (c, x). from_some (between 100 699 (number_arg c)) WrongArguments at (λ code.
     one (λ p. (make code, p ∷ [])) (expanded_arg known x)))
 
 -- (n): a number from 1 to 255
 abbrev pub counting : (ℕ → Func) → Form
-counting make known at args = from_some (one_arg args) 8 at (λ n. from_some (between 1 255 (number_arg n)) 8 at (λ n. accepted (make n, [])))
+counting make known at args = from_some (one_arg args) WrongArguments at (λ n. from_some (between 1 255 (number_arg n)) WrongArguments at (λ n. accepted (make n, [])))
 
 -- ("literal")
 abbrev pub with_literal : (Known → Place → Word → Checked Func) → Form
-with_literal read known at args = from_some (one_arg args) 8 at (λ a. from_some (literal a) 8 at (λ w.
+with_literal read known at args = from_some (one_arg args) WrongArguments at (λ a. from_some (literal a) WrongArguments at (λ w.
     one (λ f. (f, [])) (read known at w)))
 
 abbrev pub taking_text : (List ℕ → Func) → Form
@@ -165,7 +167,7 @@ taking_table make = with_literal (λ known at w. one make (table_number known w.
 
 -- "table=>re"
 abbrev pub taking_table_pattern : (ℕ → ℕ → Func) → Form
-taking_table_pattern make = with_literal (λ known at w. from_some (table_and_key w.text) 8 at (λ split.
+taking_table_pattern make = with_literal (λ known at w. from_some (table_and_key w.text) WrongArguments at (λ split.
     both make (table_number known w.at split.0) (pattern_number w.at split.1)))
 
 -- a name of a field that may be removed: not one of those that a message needs
@@ -176,18 +178,18 @@ needed_fields =
 
 abbrev pub taking_removable : (List ℕ → Func) → Form
 taking_removable make = with_literal (λ known at w.
-    if list_any (str_eq_ignore_ascii_case w.text) needed_fields then refused 8 at else accepted (make w.text))
+    if list_any (str_eq_ignore_ascii_case w.text) needed_fields then refused WrongArguments at else accepted (make w.text))
 
 -- (x index, x label, route)
 abbrev pub continuing : (ℕ → Func) → Form
-continuing make known at args = from_some (three_args args) 8 at (λ (i, l, r). from_some (literal r) 8 at (λ w.
+continuing make known at args = from_some (three_args args) WrongArguments at (λ (i, l, r). from_some (literal r) WrongArguments at (λ w.
     both (λ ps b. (make b, ps)) (both (λ p q. p ∷ q ∷ []) (expanded_arg known i) (expanded_arg known l)) (block_number known Route w)))
 
 -- ([level,] x text): the level is a string, which isn't looked at
 abbrev pub logging : Func → Form
-logging f known at [] = refused 8 at
+logging f known at [] = refused WrongArguments at
 logging f known at (x ∷ []) = expanding f known at (x ∷ [])
-logging f known at (level ∷ x ∷ more) = from_some (literal level) 8 at (λ w. expanding f known at (x ∷ more))
+logging f known at (level ∷ x ∷ more) = from_some (literal level) WrongArguments at (λ w. expanding f known at (x ∷ more))
 
 -- ---- calls
 
@@ -219,5 +221,5 @@ may_stand f (Begins kind) = stands_in f kind
 
 -- a call of the function of this name, in a block of this kind
 abbrev pub function_call : Known → RouteKind → Word → List RawArg → Checked FuncWith
-function_call known kind w args = from_some (function_named w.text) 6 w.at (λ f.
-    unless (if may_stand f kind then None else Some (record { kind = 7; at = w.at })) (form f known w.at args))
+function_call known kind w args = from_some (function_named w.text) UnknownFunction w.at (λ f.
+    unless (if may_stand f kind then None else Some (refusal WrongBlock w.at)) (form f known w.at args))

@@ -140,7 +140,7 @@ mutual
     bracketed : (room : ℕ) (ts : List Token) (left right : Token) (e : RawExpr) → IsMark mark.OpenRound left → ExprIs Or room ts e →
         IsMark mark.CloseRound right → ExprIs Unary (suc room) (left ∷ ts ++ right ∷ []) e
 
-  -- one or more operands, each behind what joins it
+  -- one or more operands, each after what joins it
   pub data JoinedAre : Level → ℕ → List Token → List RawExpr → Type 0 where
     last_joined : (l : Level) (room : ℕ) (t : Token) (ts : List Token) (e : RawExpr) → JoinIs l t → ExprIs l room ts e →
         JoinedAre l room (t ∷ ts) (e ∷ [])

@@ -1,9 +1,11 @@
+pub mod ByteNames
 pub mod Transformations
 pub mod Meaning
 pub mod Small
 pub mod Tokens
 pub mod Grammar
 pub mod Variables
+pub mod RefusalKinds
 pub mod Refusals
 pub mod Names
 pub mod Functions

@@ -95,7 +95,7 @@ item_of table.Seconds t key = pv.ItemSeconds t key
 item_of table.Increment t key = pv.ItemIncrement t key
 item_of table.Decrement t key = pv.ItemDecrement t key
 
--- the texts of the parts' values, one after another, behind a text
+-- the texts of the parts' values, one after another, after a text
 abbrev pub texts_behind : List ℕ → List Valued → WithText → State → RunTalk
 texts_behind front [] next = next front
 texts_behind front (p ∷ ps) next = p (λ v. texts_behind (front ++ text_of v) ps next)
@@ -108,19 +108,19 @@ abbrev pub read_host : PvUse → Valued
 read_host x next s = Asks (Read x) (λ answer. next (told_value answer) s)
 
 -- what a part of an expanded text does; each variable is read as it is met
-abbrev pub part_step : Part-F Valued → Valued
-part_step (Part-F.Text t) next s = next (Text t) s
-part_step (Part-F.Var x) next s = next (slice_index_or s.env.vars x Null) s
-part_step Part-F.Code next s = next (Int s.env.rc) s
-part_step (Part-F.Host x) next s = read_host x next s
-part_step (Part-F.Item way t key) next s = expanded key (λ k. read_host (item_of way t (text_of k)) next) s
-part_step (Part-F.Transformed tr p) next s = p (λ v. next (transformed tr v)) s
+abbrev pub part_meaning_step : Part-F Valued → Valued
+part_meaning_step (Part-F.Text t) next s = next (Text t) s
+part_meaning_step (Part-F.Var x) next s = next (slice_index_or s.env.vars x Null) s
+part_meaning_step Part-F.Code next s = next (Int s.env.rc) s
+part_meaning_step (Part-F.Host x) next s = read_host x next s
+part_meaning_step (Part-F.Item way t key) next s = expanded key (λ k. read_host (item_of way t (text_of k)) next) s
+part_meaning_step (Part-F.Transformed tr p) next s = p (λ v. next (transformed tr v)) s
 
-abbrev pub part_of : Part → Valued
-part_of = fold-Part Valued part_step
+abbrev pub part_meaning : Part → Valued
+part_meaning = fold-Part Valued part_meaning_step
 
 abbrev pub expansion_of : List Part → Valued
-expansion_of parts = expanded (map part_of parts)
+expansion_of parts = expanded (map part_meaning parts)
 
 -- ---- expressions
 
@@ -134,8 +134,8 @@ pub data Wanted : Type 0 where
 abbrev pub Meant : Type 0
 Meant = Wanted → Valued
 
-abbrev pub plain : Valued → Meant
-plain m wanted = m
+abbrev pub either_way : Valued → Meant
+either_way m wanted = m
 
 -- what a call of a block does, given what comes after its code
 abbrev pub Routes : Type 0
@@ -146,7 +146,7 @@ abbrev pub coded : (WithCode → State → RunTalk) → Meant
 coded call AsValue next = counted (call (settle (λ n. next (Int n))))
 coded call AsTruth next = counted (call (settle (λ n. next (bit (int_lt (pos 0) n)))))
 
--- the values of the expanded arguments, from left to right, behind those before
+-- the values of the expanded arguments, from left to right, after those before
 abbrev pub arguments_behind : List Val → List (List Part) → WithValues → State → RunTalk
 arguments_behind front [] next = next front
 arguments_behind front (a ∷ more) next = expansion_of a (λ v. arguments_behind (front ++ v ∷ []) more next)
@@ -175,22 +175,22 @@ matched (Some source) Null = false
 matched (Some source) (Int n) = matches_in source (text_of (Int n))
 matched (Some source) (Text t) = matches_in source t
 
-abbrev pub expr_step : Script → Routes → Expr-F Meant → Meant
-expr_step script route (Expr-F.Int n) = plain (λ next. next (Int n))
-expr_step script route (Expr-F.Text t) = plain (λ next. next (limited t))
-expr_step script route (Expr-F.Read p) = plain (part_of p)
-expr_step script route (Expr-F.Call f args) = coded (called f args)
-expr_step script route (Expr-F.Route block) = coded (route block)
-expr_step script route (Expr-F.Not a) = plain (λ next. a AsTruth (λ v. next (bit (not (is_true v)))))
-expr_step script route (Expr-F.Negative a) = plain (λ next. a AsValue (λ v. next (negated v)))
-expr_step script route (Expr-F.Chain a cs) = plain (λ next. a AsValue (λ x. linked cs x next))
-expr_step script route (Expr-F.Matches a p) =
-    plain (λ next. a AsValue (λ v. next (bit (matched (slice_get script.patterns p) v))))
-expr_step script route (Expr-F.All ms) = plain (all_true ms)
-expr_step script route (Expr-F.Any ms) = plain (any_true ms)
+abbrev pub expr_meaning_step : Script → Routes → Expr-F Meant → Meant
+expr_meaning_step script route (Expr-F.Int n) = either_way (λ next. next (Int n))
+expr_meaning_step script route (Expr-F.Text t) = either_way (λ next. next (limited t))
+expr_meaning_step script route (Expr-F.Read p) = either_way (part_meaning p)
+expr_meaning_step script route (Expr-F.Call f args) = coded (called f args)
+expr_meaning_step script route (Expr-F.Route block) = coded (route block)
+expr_meaning_step script route (Expr-F.Not a) = either_way (λ next. a AsTruth (λ v. next (bit (not (is_true v)))))
+expr_meaning_step script route (Expr-F.Negative a) = either_way (λ next. a AsValue (λ v. next (negated v)))
+expr_meaning_step script route (Expr-F.Chain a cs) = either_way (λ next. a AsValue (λ x. linked cs x next))
+expr_meaning_step script route (Expr-F.Matches a p) =
+    either_way (λ next. a AsValue (λ v. next (bit (matched (slice_get script.patterns p) v))))
+expr_meaning_step script route (Expr-F.All ms) = either_way (all_true ms)
+expr_meaning_step script route (Expr-F.Any ms) = either_way (any_true ms)
 
 abbrev pub expr_of : Script → Routes → Expr → Meant
-expr_of script route = fold-Expr Meant (expr_step script route)
+expr_of script route = fold-Expr Meant (expr_meaning_step script route)
 
 -- ---- statements
 
@@ -242,28 +242,28 @@ abbrev pub returned : Script → Routes → Option Expr → WithCode → State �
 returned script route None back = back (pos 1)
 returned script route (Some e) back = expr_of script route e AsValue (λ v. back (code_of v))
 
-abbrev pub stmt_step : Script → Routes → Stmt-F Made → Made
-stmt_step script route (Stmt-F.Set target e) ways = counted (assigned target (expr_of script route e AsValue) ways.on)
-stmt_step script route (Stmt-F.Do e) ways = expr_of script route e AsValue (λ v. ways.on)
-stmt_step script route (Stmt-F.If e first other) ways =
+abbrev pub stmt_meaning_step : Script → Routes → Stmt-F Made → Made
+stmt_meaning_step script route (Stmt-F.Set target e) ways = counted (assigned target (expr_of script route e AsValue) ways.on)
+stmt_meaning_step script route (Stmt-F.Do e) ways = expr_of script route e AsValue (λ v. ways.on)
+stmt_meaning_step script route (Stmt-F.If e first other) ways =
     counted (expr_of script route e AsTruth (λ v s. if is_true v then in_order first ways s else in_order other ways s))
-stmt_step script route (Stmt-F.While e body) ways =
+stmt_meaning_step script route (Stmt-F.While e body) ways =
     rounds script.parameters.max_while_loops (expr_of script route e AsTruth) (in_order body) ways
-stmt_step script route (Stmt-F.Switch e cases default) ways =
+stmt_meaning_step script route (Stmt-F.Switch e cases default) ways =
     counted (expr_of script route e AsValue (λ v. chosen v cases default (record ways { out = ways.on })))
-stmt_step script route Stmt-F.Break ways = counted ways.out
-stmt_step script route (Stmt-F.Return e) ways = counted (returned script route e ways.back)
-stmt_step script route Stmt-F.Exit ways = counted (ends how.Exit)
-stmt_step script route Stmt-F.Drop ways = counted (ends how.Drop)
+stmt_meaning_step script route Stmt-F.Break ways = counted ways.out
+stmt_meaning_step script route (Stmt-F.Return e) ways = counted (returned script route e ways.back)
+stmt_meaning_step script route Stmt-F.Exit ways = counted (ends how.Exit)
+stmt_meaning_step script route Stmt-F.Drop ways = counted (ends how.Drop)
 
 abbrev pub stmt_of : Script → Routes → Stmt → Made
-stmt_of script route = fold-Stmt Made (stmt_step script route)
+stmt_of script route = fold-Stmt Made (stmt_meaning_step script route)
 
 -- ---- blocks
 
 -- the statements of a block
-abbrev pub block_of : Script → Routes → List Stmt → Made
-block_of script route block = in_order (map (stmt_of script route) block)
+abbrev pub block_meaning : Script → Routes → List Stmt → Made
+block_meaning script route block = in_order (map (stmt_of script route) block)
 
 -- the block of this number; one that isn't there is empty
 abbrev pub block_at : Script → ℕ → List Stmt
@@ -273,7 +273,7 @@ block_at script b = slice_index_or script.blocks b []
 abbrev pub routes_to : Script → ℕ → Routes
 routes_to script zero block back = ends how.DepthLimit
 routes_to script (suc deeper) block back =
-    block_of script (routes_to script deeper) (block_at script block)
+    block_meaning script (routes_to script deeper) (block_at script block)
     (record { on = back (pos 1); out = back (pos 1); back = back })
 
 -- how a run ends whose first block gives back this code
@@ -288,7 +288,7 @@ max_statements = 100000
 -- the dialogue of a run of a block
 abbrev pub dialogue : Script → ℕ → Env → RunTalk
 dialogue script block env =
-    block_of script (routes_to script script.parameters.max_recursive_level) (block_at script block)
+    block_meaning script (routes_to script script.parameters.max_recursive_level) (block_at script block)
     (record { on = ends how.Normal; out = ends how.Normal; back = λ n. ends (end_of n) })
     (record { env = env; left = max_statements })
 

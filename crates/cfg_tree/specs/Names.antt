@@ -15,6 +15,9 @@ use Rattle.cfg_tree.specs.declared.script.Part.TheOpen.{Part-F}
 use Rattle.cfg_tree.specs.declared.script.Part.TheViews.{roll-Part}
 use Rattle.cfg_tree.specs.Variables.{Piece, Plain, Of, pieces_of, begins_with}
 use Rattle.cfg_tree.specs.Refusals.{Checked, Outcome, accepted, refused, one, both, each, from_some}
+use Rattle.cfg_tree.specs.declared.refusal_kind.RefusalKind.TheVariants.{UnknownVariable}
+use Rattle.sip_words.specs.ByteNames.{COLON, EQUAL, RAQUOT}
+use Rattle.cfg_tree.specs.ByteNames.{LETTER_S}
 
 -- what is known of the whole script: its blocks with their names, in order, and the names of its tables
 pub record Known : Type 0 where
@@ -62,12 +65,12 @@ some_text (c ∷ cs) = Some (c ∷ cs)
 
 -- the name of an AVP: `s:` before it says nothing
 abbrev pub avp_name : List ℕ → Option (List ℕ)
-avp_name inner = if begins_with 115 inner && begins_with 58 (drop 1 inner) then some_text (drop 2 inner) else some_text inner
+avp_name inner = if begins_with LETTER_S inner && begins_with COLON (drop 1 inner) then some_text (drop 2 inner) else some_text inner
 
 -- TABLE=>KEY
 abbrev pub table_and_key : List ℕ → Option (List ℕ × List ℕ)
 table_and_key [] = None
-table_and_key (c ∷ cs) = if (c == 61) && begins_with 62 cs then Some ([], drop 1 cs) else put_before c (table_and_key cs)
+table_and_key (c ∷ cs) = if (c == EQUAL) && begins_with RAQUOT cs then Some ([], drop 1 cs) else put_before c (table_and_key cs)
   where
     put_before : ℕ → Option (List ℕ × List ℕ) → Option (List ℕ × List ℕ)
     put_before c None = None
@@ -83,7 +86,7 @@ host_layer x = accepted (Part-F.Host x)
 -- a variable with an item of a table, whose key is expanded
 abbrev pub item_layer : Known → (List ℕ → Checked (List Part)) → Place → TableUse → List ℕ → Checked Layer
 item_layer known expand at way inner =
-    from_some (table_and_key inner) 9 at (λ split. from_some (position (bytes_eq split.0) known.tables) 9 at (λ t.
+    from_some (table_and_key inner) UnknownVariable at (λ split. from_some (position (bytes_eq split.0) known.tables) UnknownVariable at (λ t.
     one (λ key. Part-F.Item way t key) (expand split.1)))
 
 -- a variable without brackets, and with them
@@ -91,15 +94,15 @@ abbrev pub bare_layer : Place → List ℕ → Checked Layer
 bare_layer at name =
     if bytes_eq name (codes "rc") then accepted Part-F.Code
     else if bytes_eq name (codes "retcode") then accepted Part-F.Code
-    else from_some (named name host_names) 9 at host_layer
+    else from_some (named name host_names) UnknownVariable at host_layer
 
 abbrev pub inner_layer : Known → (List ℕ → Checked (List Part)) → Place → List ℕ → List ℕ → Checked Layer
 inner_layer known expand at name inner =
-    if bytes_eq name (codes "var") then from_some (some_text inner) 9 at (λ n. one (λ x. Part-F.Var x) (var_number n))
-    else if bytes_eq name (codes "avp") then from_some (avp_name inner) 9 at (λ n. host_layer (pv.Avp n))
-    else if bytes_eq name (codes "hdr") then from_some (some_text inner) 9 at (λ n. host_layer (pv.Header n))
-    else if bytes_eq name (codes "T") then from_some (named inner suspension_names) 9 at host_layer
-    else from_some (named name table_names) 9 at (λ way. item_layer known expand at way inner)
+    if bytes_eq name (codes "var") then from_some (some_text inner) UnknownVariable at (λ n. one (λ x. Part-F.Var x) (var_number n))
+    else if bytes_eq name (codes "avp") then from_some (avp_name inner) UnknownVariable at (λ n. host_layer (pv.Avp n))
+    else if bytes_eq name (codes "hdr") then from_some (some_text inner) UnknownVariable at (λ n. host_layer (pv.Header n))
+    else if bytes_eq name (codes "T") then from_some (named inner suspension_names) UnknownVariable at host_layer
+    else from_some (named name table_names) UnknownVariable at (λ way. item_layer known expand at way inner)
 
 abbrev pub untransformed : Known → (List ℕ → Checked (List Part)) → Place → Variable → Option (List ℕ) → Checked Layer
 untransformed known expand at v None = bare_layer at v.name
@@ -108,7 +111,7 @@ untransformed known expand at v (Some inner) = inner_layer known expand at v.nam
 abbrev pub transformed_layer : Place → Checked Layer → Option (List ℕ) → Checked Layer
 transformed_layer at layer None = layer
 transformed_layer at layer (Some name) =
-    both (λ p tr. Part-F.Transformed tr (roll-Part p)) layer (from_some (named name transformation_names) 9 at accepted)
+    both (λ p tr. Part-F.Transformed tr (roll-Part p)) layer (from_some (named name transformation_names) UnknownVariable at accepted)
 
 -- what a variable stands for; an unknown one, also inside its key, is refused at this place
 abbrev pub layer_by : Known → (List ℕ → Checked (List Part)) → Place → Variable → Checked Layer
@@ -121,13 +124,13 @@ piece_part known expand at (Of v) = one roll-Part (layer_by known expand at v)
 -- a piece where no variable may be opened any more
 abbrev pub plain_part : Place → Piece → Checked Part
 plain_part at (Plain t) = accepted (roll-Part (Part-F.Text t))
-plain_part at (Of v) = refused 9 at
+plain_part at (Of v) = refused UnknownVariable at
 
 -- the parts of a text where so many variables, one in the key of another, may still be opened
 unfoldable pub expansion_within : ℕ → Known → Place → List ℕ → Checked (List Part)
-expansion_within zero known at text = from_some (pieces_of text) 9 at (λ pieces. each (map (plain_part at) pieces))
+expansion_within zero known at text = from_some (pieces_of text) UnknownVariable at (λ pieces. each (map (plain_part at) pieces))
 expansion_within (suc depth) known at text =
-    from_some (pieces_of text) 9 at (λ pieces. each (map (piece_part known (expansion_within depth known at) at) pieces))
+    from_some (pieces_of text) UnknownVariable at (λ pieces. each (map (piece_part known (expansion_within depth known at) at) pieces))
 
 -- at most so many variables are open at a place of a text
 abbrev pub max_nested : ℕ

@@ -1,10 +1,16 @@
 -- What is read of a tree: a value, or why it is refused, with what was met on the way.
 use Rattle.std.specs.Prelude.{◌≡◌, ◌⊎◌, ℕ, ◌<◌, ◌≤◌, List, [], ◌∷◌, ◌++◌, All, Contains, Option, Some, None, option_map}
 use Rattle.pv_values.specs.declared.refusal.Place.{Place}
+use Rattle.cfg_tree.specs.declared.refusal_kind.RefusalKind.{RefusalKind}
+use Rattle.cfg_tree.specs.RefusalKinds.{refusal_number}
 
+-- a refusal, with the number of its kind
 pub record Refusal : Type 0 where
   pub kind : ℕ
   pub at : Place
+
+abbrev pub refusal : RefusalKind → Place → Refusal
+refusal kind at = record { kind = refusal_number kind; at = at }
 
 -- what was met so far, in the order of the text: the number of statements, the patterns, and the names of `$var`
 pub record Seen : Type 0 where
@@ -24,8 +30,8 @@ Checked A = Seen → Outcome A
 abbrev pub accepted : {A : Type 0} → A → Checked A
 accepted a seen = record { refusals = []; seen = seen; value = Some a }
 
-abbrev pub refused : {A : Type 0} → ℕ → Place → Checked A
-refused kind at seen = record { refusals = (record { kind = kind; at = at }) ∷ []; seen = seen; value = None }
+abbrev pub refused : {A : Type 0} → RefusalKind → Place → Checked A
+refused kind at seen = record { refusals = refusal kind at ∷ []; seen = seen; value = None }
 
 -- both values, the first one read first
 abbrev pub join : {A B C : Type 0} → (A → B → C) → Option A → Option B → Option C
@@ -51,7 +57,7 @@ each [] = accepted []
 each (m ∷ ms) = both (λ a more. a ∷ more) m (each ms)
 
 -- a value of something that is there, and else a refusal
-abbrev pub from_some : {A B : Type 0} → Option A → ℕ → Place → (A → Checked B) → Checked B
+abbrev pub from_some : {A B : Type 0} → Option A → RefusalKind → Place → (A → Checked B) → Checked B
 from_some None kind at next = refused kind at
 from_some (Some a) kind at next = next a
 

@@ -14,7 +14,9 @@ use Rattle.cfg_tree.specs.declared.raw.RawItem.TheVariants as item
 use Rattle.cfg_tree.specs.Variables.{before, begins_with, is_name}
 use Rattle.cfg_tree.specs.Names.{table_and_key}
 use Rattle.cfg_tree.specs.Functions.{between, not_below_0}
-use Rattle.cfg_tree.specs.Refusals.{Refusal}
+use Rattle.cfg_tree.specs.Refusals.{Refusal, refusal}
+use Rattle.cfg_tree.specs.declared.refusal_kind.RefusalKind.TheVariants.{BadParameter, TooLarge, UnknownModule}
+use Rattle.sip_words.specs.ByteNames.{SEMI, EQUAL, SLASH}
 
 -- what is set so far
 pub record Settings : Type 0 where
@@ -89,13 +91,13 @@ with_parameter name value s =
 -- the parts between semicolons
 abbrev pub at_semicolons : List ℕ → List (List ℕ)
 at_semicolons [] = [] ∷ []
-at_semicolons (c ∷ cs) = if c == 59 then [] ∷ at_semicolons cs else in_front c (at_semicolons cs)
+at_semicolons (c ∷ cs) = if c == SEMI then [] ∷ at_semicolons cs else in_front c (at_semicolons cs)
   where
     in_front : ℕ → List (List ℕ) → List (List ℕ)
     in_front c [] = (c ∷ []) ∷ []
     in_front c (p ∷ ps) = (c ∷ p) ∷ ps
 
--- without an empty part at the end: a semicolon may stand behind the last one
+-- without an empty part at the end: a semicolon may stand after the last one
 abbrev pub without_empty_end : List (List ℕ) → List (List ℕ)
 without_empty_end [] = []
 without_empty_end ([] ∷ []) = []
@@ -121,9 +123,9 @@ one_alone text = if bytes_eq text (codes "1") then Some 1 else None
 abbrev pub with_part : List ℕ → Option TableParts → Option TableParts
 with_part part None = None
 with_part part (Some t) =
-    let name = take (before 61 part) part in
-    let value = drop (before 61 part + 1) part in
-    let n = if begins_with 61 (drop (before 61 part) part) then number_in value else None in
+    let name = take (before EQUAL part) part in
+    let value = drop (before EQUAL part + 1) part in
+    let n = if begins_with EQUAL (drop (before EQUAL part) part) then number_in value else None in
     if bytes_eq name (codes "size") then option_map (λ n. record t { size = Some n }) (first_time t.size (between 2 14 (natural n)))
     else if bytes_eq name (codes "autoexpire") then
     option_map (λ n. record t { autoexpire = Some n }) (first_time t.autoexpire (between 0 10000000 (natural n)))
@@ -176,9 +178,9 @@ module_names =
     codes "tm" ∷ codes "tmx" ∷ codes "pv" ∷ codes "htable" ∷ codes "corex" ∷ codes "sl" ∷ codes "textops" ∷ codes "siputils"
     ∷ codes "maxfwd" ∷ codes "rr" ∷ codes "xlog" ∷ []
 
--- a name without its path: what is behind the last `/`
+-- a name without its path: what is after the last `/`
 abbrev pub without_path : List ℕ → List ℕ
-without_path text = reverse (take (before 47 (reverse text)) (reverse text))
+without_path text = reverse (take (before SLASH (reverse text)) (reverse text))
 
 -- a module, with or without a path and `.so`
 abbrev pub is_module : List ℕ → Bool
@@ -191,12 +193,12 @@ Step = Settings × List Refusal
 
 -- a refused item sets nothing
 abbrev pub set_or_refused : Word → Settings → Option Settings → Step
-set_or_refused w old None = (old, (record { kind = 11; at = w.at }) ∷ [])
+set_or_refused w old None = (old, refusal BadParameter w.at ∷ [])
 set_or_refused w old (Some new) = (new, [])
 
 -- the 33rd table is refused
 abbrev pub table_limit : Word → Settings → List Refusal
-table_limit w new = if nat_le 33 (length new.tables) then (record { kind = 13; at = w.at }) ∷ [] else []
+table_limit w new = if nat_le 33 (length new.tables) then refusal TooLarge w.at ∷ [] else []
 
 abbrev pub within_tables : Word → Settings → Step → Step
 within_tables w old (new, refusals) =
@@ -204,7 +206,7 @@ within_tables w old (new, refusals) =
 
 abbrev pub item_step : RawItem → Settings → Step
 item_step (item.Parameter w value) s = set_or_refused w s (with_parameter w.text value s)
-item_step (item.Module w) s = (s, if is_module w.text then [] else (record { kind = 15; at = w.at }) ∷ [])
+item_step (item.Module w) s = (s, if is_module w.text then [] else refusal UnknownModule w.at ∷ [])
 item_step (item.ModuleParameter of w value) s =
     within_tables w s (set_or_refused w s (with_module_parameter of.text w.text value s))
 item_step (item.Block b) s = (s, [])

@@ -19,7 +19,8 @@ use Rattle.cfg_tree.specs.declared.token.Mark.TheVariants as mark
 use Rattle.cfg_tree.specs.declared.raw.RawItem.{RawItem}
 use Rattle.cfg_tree.specs.declared.raw.RawItem.TheVariants as item
 use Rattle.cfg_tree.specs.declared.raw.RawScript.{RawScript}
-use Rattle.cfg_tree.specs.Refusals.{Refusal}
+use Rattle.cfg_tree.specs.Refusals.{Refusal, refusal}
+use Rattle.cfg_tree.specs.declared.refusal_kind.RefusalKind.{RefusalKind}
 
 abbrev pub at : ℕ → ℕ → Place
 at from to = record { from = from; to = to }
@@ -28,8 +29,8 @@ abbrev pub word_at : List ℕ → ℕ → ℕ → Word
 word_at text from to = record { text = text; at = at from to }
 
 -- this is the only refusal
-abbrev pub only : ℕ → ℕ → ℕ → List Refusal
-only kind from to = (record { kind = kind; at = at from to }) ∷ []
+abbrev pub only : RefusalKind → ℕ → ℕ → List Refusal
+only kind from to = refusal kind (at from to) ∷ []
 
 -- `request_route{}` from a place on
 abbrev pub empty_request : ℕ → RawBlock

@@ -1,4 +1,4 @@
-// What small scripts mean, and what is refused of small trees, computed from the definitions.
+//! What small scripts mean, and what is refused of small trees, computed from the definitions.
 
 ghost use Rattle.std.specs.Prelude.{◌≡◌, pos, negsuc, [], ◌∷◌, codes};
 ghost use Rattle.dialogue.specs.Talk.{Need};
@@ -12,9 +12,10 @@ ghost use Rattle.cfg_tree.specs.Meaning.{meaning};
 ghost use Rattle.cfg_tree.specs.Small.{counts_to, route_of_0, sum_past_the_end, rest_of_seven, start, ended, calls_itself, falls_through, stops_early, logs_a_text};
 ghost use Rattle.cfg_tree.specs.Grammar.{Derives};
 ghost use Rattle.cfg_tree.specs.declared.raw.RawScript.{RawScript};
+ghost use Rattle.cfg_tree.specs.declared.refusal_kind.RefusalKind.TheVariants.{RouteTwice, WrongBlock, UnknownVariable, BadPattern, NoRequestRoute, UnknownModule};
 ghost use Rattle.cfg_tree.specs.declared.script.Script.{Script};
 ghost use Rattle.cfg_tree.specs.Checks.{refusals_of, IsAccepted};
-ghost use Rattle.cfg_tree.specs.Closed.{IsClosed, IsClosedWith, kinds_of};
+ghost use Rattle.cfg_tree.specs.Closed.{IsClosed, IsClosedWith, block_kinds};
 ghost use Rattle.cfg_tree.specs.SmallTrees.{only, no_text, one_name_twice, relays_an_event, unknown_module, unknown_variable, branching_tokens, branching_items, no_pattern};
 
 /// `$var(i) = 0; while ($var(i) < 100) { $var(i) = $var(i) + 1; }`: a loop may make a hundred rounds.
@@ -64,29 +65,29 @@ pub fn a_text_is_expanded_from_left_to_right()
         (Text (codes "a1-$") ∷ [])) }
 {}
 
-/// The empty text has no `request_route`: kind 14 at its end.
+/// The empty text has no `request_route`: NoRequestRoute at its end.
 pub fn no_text_is_refused()
-    ensures { refusals_of no_text ≡ only 14 0 0 }
+    ensures { refusals_of no_text ≡ only NoRequestRoute 0 0 }
 {}
 
-/// `route[A]{}` twice: kind 5 at the second name.
+/// `route[A]{}` twice: RouteTwice at the second name.
 pub fn a_second_block_of_one_name_is_refused()
-    ensures { refusals_of one_name_twice ≡ only 5 17 18 }
+    ensures { refusals_of one_name_twice ≡ only RouteTwice 17 18 }
 {}
 
-/// `t_relay` directly in an event block: kind 7 at its name.
+/// `t_relay` directly in an event block: WrongBlock at its name.
 pub fn a_relay_of_an_event_is_refused()
-    ensures { refusals_of relays_an_event ≡ only 7 15 22 }
+    ensures { refusals_of relays_an_event ≡ only WrongBlock 15 22 }
 {}
 
-/// `loadmodule "usrloc.so"`: kind 15 at the string.
+/// `loadmodule "usrloc.so"`: UnknownModule at the string.
 pub fn an_unknown_module_is_refused()
-    ensures { refusals_of unknown_module ≡ only 15 11 22 }
+    ensures { refusals_of unknown_module ≡ only UnknownModule 11 22 }
 {}
 
-/// `$foo = $ru`: kind 9 at the unknown variable, and not kind 10.
+/// `$foo = $ru`: UnknownVariable at the unknown variable, and not NotWritable.
 pub fn an_unknown_variable_is_refused()
-    ensures { refusals_of unknown_variable ≡ only 9 14 18 }
+    ensures { refusals_of unknown_variable ≡ only UnknownVariable 14 18 }
 {}
 
 /// `route[A]{if(!$rc)exit;else{}}`: these tokens derive this tree.
@@ -94,14 +95,14 @@ pub fn an_if_with_else_is_derived()
     ensures { Derives branching_tokens branching_items }
 {}
 
-/// `$ru =~ "("`: kind 12 at the string, which `regex`'s grammar doesn't read.
+/// `$ru =~ "("`: BadPattern at the string, which `regex`'s grammar doesn't read.
 pub fn a_text_that_is_no_pattern_is_refused()
-    ensures { refusals_of no_pattern ≡ only 12 22 25 }
+    ensures { refusals_of no_pattern ≡ only BadPattern 22 25 }
 {}
 
 /// Every number in an accepted script names something that is there, and each block that it names is of
 /// the right kind.
 pub fn an_accepted_script_is_closed()
     ensures closed { (raw : RawScript) (script : Script) → IsAccepted raw script → IsClosed script }
-    ensures kinds { (raw : RawScript) (script : Script) → IsAccepted raw script → IsClosedWith (kinds_of raw) script }
+    ensures kinds { (raw : RawScript) (script : Script) → IsAccepted raw script → IsClosedWith (block_kinds raw) script }
 {}

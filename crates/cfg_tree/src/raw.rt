@@ -1,4 +1,4 @@
-// A script as it is written: the tree of its tokens, with the places of what may be refused.
+//! A script as it is written: the tree of its tokens, with the places of what may be refused.
 
 use crate::setting::Listen;
 use crate::token::Variable;

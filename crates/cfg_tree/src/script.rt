@@ -1,4 +1,4 @@
-// An accepted script.
+//! An accepted script.
 
 use crate::setting::Parameters;
 use pv_values::{BinOp, Func, Patterns, PvUse, TableSpec, Text, Transformation, Val};

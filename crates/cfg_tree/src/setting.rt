@@ -1,4 +1,4 @@
-// What a script sets for the whole proxy.
+//! What a script sets for the whole proxy.
 
 use pv_values::Text;
 use sqlite_items::Items;

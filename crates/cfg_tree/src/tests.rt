@@ -1,11 +1,11 @@
-// What transformations make of values, worked out by hand from the rules.
+//! What transformations make of values, worked out by hand from the rules.
 
 use crate::transform;
 use pv_values::{Text, Transformation, Val};
 use std::alloc::{AllocError, Global};
 use std::test::Fail;
 
-/// A value by a word: `null`, a number, or a text behind a `'`.
+/// A value by a word: `null`, a number, or a text after a `'`.
 fn value(alloc: Global, word: &str) -> Result<Val, AllocError> {
     if let Some(text) = word.strip_prefix('\'') {
         Ok(Val::Text(Text::from_slice(alloc, text.as_bytes())?))

@@ -1,4 +1,4 @@
-// The tokens of a script.
+//! The tokens of a script.
 
 use crate::setting::Listen;
 use pv_values::{Place, Text};
@@ -22,9 +22,9 @@ pub enum Lexeme {
     /// The bytes that the string between its quotes stands for.
     String(Text),
     Variable(Variable),
-    /// `udp:IP:PORT`, behind `listen` and `=`.
+    /// `udp:IP:PORT`, after `listen` and `=`.
     Listen(Listen),
-    /// The name of a block, behind `[`, or behind the `(` that follows `route`.
+    /// The name of a block, after `[`, or after the `(` that follows `route`.
     BlockName(Text),
 }
 

@@ -1,4 +1,4 @@
-// Transformations of a value.
+//! Transformations of a value.
 
 ghost use Rattle.std.specs.Prelude.{◌≡◌, ◌≤◌, pos, length, IfOk, IfSome};
 ghost use Rattle.cfg_tree.specs.Transformations.{transformed, int_or_null, part_or_null, user_in, host_in};

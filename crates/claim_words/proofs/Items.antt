@@ -14,8 +14,8 @@ use Rattle.claim_words.specs.declared.ClaimRecord.TheVariants.{Opened, Claimed}
 use Rattle.histories.specs.Runs.{folded, EachAnswers}
 use Rattle.histories.specs.Records.{recorded, records}
 use Rattle.histories.proofs.Lists.{records_append}
-use Rattle.claim_words.specs.Suspensions.{suspension, ended, opened, claimed, end_at, claim_end, after, suspensions, IsAnswer, ClaimEntry, IsClaimHistory}
-use Rattle.claim_words.specs.Words.{ways, code, by_of, state_of, word_of, answer}
+use Rattle.claim_words.specs.Suspensions.{suspension, ended_by, opened, claimed, end_at, claim_end, after, suspensions, IsAnswer, ClaimEntry, IsClaimHistory}
+use Rattle.claim_words.specs.Words.{ways, code, by_of, way_number, word_of, end_by_word}
 use Rattle.claim_words.specs.Claims.{maker_of, author, made_by, of_slot}
 
 -- What holds of each way: a new way adds a line to each of these four, and to `code` and `by_of`
@@ -39,15 +39,15 @@ by_code Continued = refl
 by_code TimedOut = refl
 by_code Cancelled = refl
 
-state_small : (o : Option By) → state_of o < ways
+state_small : (o : Option By) → way_number o < ways
 state_small None = omega arith
 state_small (Some by) = code_small by
 
-state_zero : (o : Option By) → state_of o ≡ 0 → o ≡ None
+state_zero : (o : Option By) → way_number o ≡ 0 → o ≡ None
 state_zero None e = refl
 state_zero (Some by) e = let l = code_some by in absurd (omega arith)
 
-end_law : (o : Option By) (s : ℕ) → cond (eqb (state_of o) 0) (Won (s - 1)) (Lost (by_of (state_of o))) ≡ end_at o s
+end_law : (o : Option By) (s : ℕ) → cond (eqb (way_number o) 0) (Won (s - 1)) (Lost (by_of (way_number o))) ≡ end_at o s
 end_law None s = refl
 end_law (Some by) s = (λ i. cond (code_test by i) (Won (s - 1)) (Lost (by_code by i)))
 
@@ -77,32 +77,32 @@ pub opened_length : (xs : List (Option By)) → length (opened xs) ≡ length xs
 opened_length xs = length-append xs (None ∷ [])
 
 pub claimed_length : (xs : List (Option By)) (s : ℕ) (by : By) → length (claimed xs s by) ≡ length xs
-claimed_length xs s by = elim (eqb s (length xs)) as (λ b. length (cond b (set xs (s - 1) (ended (suspension xs s) by)) xs) ≡ length xs) [
-  | true ↦ length-set xs (s - 1) (ended (suspension xs s) by)
+claimed_length xs s by = elim (eqb s (length xs)) as (λ b. length (cond b (set xs (s - 1) (ended_by (suspension xs s) by)) xs) ≡ length xs) [
+  | true ↦ length-set xs (s - 1) (ended_by (suspension xs s) by)
   | false ↦ refl
 ]
 
 pub claimed_other : (xs : List (Option By)) (s : ℕ) (by : By) → s ≢ length xs → claimed xs s by ≡ xs
-claimed_other xs s by ne = ap (λ b. cond b (set xs (s - 1) (ended (suspension xs s) by)) xs) (ne_eqb s (length xs) ne)
+claimed_other xs s by ne = ap (λ b. cond b (set xs (s - 1) (ended_by (suspension xs s) by)) xs) (ne_eqb s (length xs) ne)
 
-pub claimed_same : (xs : List (Option By)) (s : ℕ) (by : By) → s ≡ length xs → claimed xs s by ≡ set xs (s - 1) (ended (suspension xs s) by)
-claimed_same xs s by e = ap (λ b. cond b (set xs (s - 1) (ended (suspension xs s) by)) xs) (eq-eqb s (length xs) e)
+pub claimed_same : (xs : List (Option By)) (s : ℕ) (by : By) → s ≡ length xs → claimed xs s by ≡ set xs (s - 1) (ended_by (suspension xs s) by)
+claimed_same xs s by e = ap (λ b. cond b (set xs (s - 1) (ended_by (suspension xs s) by)) xs) (eq-eqb s (length xs) e)
 
-claimed_at : (xs : List (Option By)) (n : ℕ) (by : By) → suc n ≡ length xs → claimed xs (suc n) by ≡ set xs n (ended (suspension xs (suc n)) by)
-claimed_at xs n by e = claimed_same xs (suc n) by e ∙ ap (λ (m : ℕ). set xs m (ended (suspension xs (suc n)) by)) (let p : suc n - 1 ≡ n = omega arith in p)
+claimed_at : (xs : List (Option By)) (n : ℕ) (by : By) → suc n ≡ length xs → claimed xs (suc n) by ≡ set xs n (ended_by (suspension xs (suc n)) by)
+claimed_at xs n by e = claimed_same xs (suc n) by e ∙ ap (λ (m : ℕ). set xs m (ended_by (suspension xs (suc n)) by)) (let p : suc n - 1 ≡ n = omega arith in p)
 
 -- the newest suspension after a claim of it
-pub newest_claimed : (xs : List (Option By)) (s : ℕ) (by : By) → s ≡ length xs → 0 < s → suspension (claimed xs s by) s ≡ ended (suspension xs s) by
+pub newest_claimed : (xs : List (Option By)) (s : ℕ) (by : By) → s ≡ length xs → 0 < s → suspension (claimed xs s by) s ≡ ended_by (suspension xs s) by
 newest_claimed xs zero by e l = absurd (omega arith)
-newest_claimed xs (suc n) by e l = ap (λ z. suspension z (suc n)) (claimed_at xs n by e) ∙ get_or-set_same xs n (ended (suspension xs (suc n)) by) None (omega arith)
+newest_claimed xs (suc n) by e l = ap (λ z. suspension z (suc n)) (claimed_at xs n by e) ∙ get_or-set_same xs n (ended_by (suspension xs (suc n)) by) None (omega arith)
 
 -- what has ended stays
 item_claimed : (xs : List (Option By)) (s t : ℕ) (by b : By) → suspension xs s ≡ Some b → suspension (claimed xs t by) s ≡ Some b
 item_claimed xs zero t by b e = absurd (none_some b e)
 item_claimed xs (suc n) t by b e = dite (ℕ_discrete t (length xs))
     (λ is. dite (ℕ_discrete t (suc n))
-    (λ same. subst (λ (z : ℕ). suspension (claimed xs z by) (suc n) ≡ Some b) (sym same) (newest_claimed xs (suc n) by (sym same ∙ is) (omega arith) ∙ ap (λ o. ended o by) e))
-    (λ ne. let below = get_below xs n b e in ap (λ z. suspension z (suc n)) (claimed_same xs t by is) ∙ (get_or-set_other xs (t - 1) n (ended (suspension xs t) by) None (λ q. ne (omega arith)) ∙ e)))
+    (λ same. subst (λ (z : ℕ). suspension (claimed xs z by) (suc n) ≡ Some b) (sym same) (newest_claimed xs (suc n) by (sym same ∙ is) (omega arith) ∙ ap (λ o. ended_by o by) e))
+    (λ ne. let below = get_below xs n b e in ap (λ z. suspension z (suc n)) (claimed_same xs t by is) ∙ (get_or-set_other xs (t - 1) n (ended_by (suspension xs t) by) None (λ q. ne (omega arith)) ∙ e)))
     (λ ne. ap (λ z. suspension z (suc n)) (claimed_other xs t by ne) ∙ e)
 
 item_after : (xs : List (Option By)) (r : ClaimRecord) (s : ℕ) (b : By) → suspension xs s ≡ Some b → suspension (after xs r) s ≡ Some b
@@ -150,7 +150,7 @@ history_more h e l a = subst (EachAnswers IsAnswer after []) (sym (records_appen
 pub latest_of : (xs : List (Option By)) → word_of xs / ways ≡ length xs
 latest_of xs = let l = state_small (suspension xs (length xs)) in omega arith
 
-pub state_at : (xs : List (Option By)) → word_of xs % ways ≡ state_of (suspension xs (length xs))
+pub state_at : (xs : List (Option By)) → word_of xs % ways ≡ way_number (suspension xs (length xs))
 state_at xs = let l = state_small (suspension xs (length xs)) in omega arith
 
 first_decides : (b c : Bool) (u p x y : ClaimEnd) → (b ≡ true) ⊎ (c ≡ true) → cond b u (cond c p x) ≡ cond b u (cond c p y)
@@ -166,15 +166,15 @@ or_right true b e = refl
 or_right false b e = e
 
 -- the answer at a word is the answer of its list
-pub answer_law : (xs : List (Option By)) (s : ℕ) → answer (word_of xs) s ≡ claim_end xs s
-answer_law xs s =
+pub end_by_word_law : (xs : List (Option By)) (s : ℕ) → end_by_word (word_of xs) s ≡ claim_end xs s
+end_by_word_law xs s =
     let l = latest_of xs in
     let m = state_at xs in
     let Inner : ClaimEnd = cond (eqb (word_of xs % ways) 0) (Won (s - 1)) (Lost (by_of (word_of xs % ways))) in
-    let same : answer (word_of xs) s ≡ cond (eqb s 0 || nat_lt (length xs) s) Unknown (cond (nat_lt s (length xs)) (Past (length xs)) Inner) = λ i. cond (eqb s 0 || nat_lt (l i) s) Unknown (cond (nat_lt s (l i)) (Past (l i)) Inner) in
+    let same : end_by_word (word_of xs) s ≡ cond (eqb s 0 || nat_lt (length xs) s) Unknown (cond (nat_lt s (length xs)) (Past (length xs)) Inner) = λ i. cond (eqb s 0 || nat_lt (l i) s) Unknown (cond (nat_lt s (l i)) (Past (l i)) Inner) in
     same ∙ dite (ℕ_discrete s (length xs))
     (λ e. ap (λ z. cond (eqb s 0 || nat_lt (length xs) s) Unknown (cond (nat_lt s (length xs)) (Past (length xs)) z))
-    (ap (λ z. cond (eqb z 0) (Won (s - 1)) (Lost (by_of z))) (m ∙ ap (λ z. state_of (suspension xs z)) (sym e)) ∙ end_law (suspension xs s) s))
+    (ap (λ z. cond (eqb z 0) (Won (s - 1)) (Lost (by_of z))) (m ∙ ap (λ z. way_number (suspension xs z)) (sym e)) ∙ end_law (suspension xs s) s))
     (λ ne. first_decides (eqb s 0 || nat_lt (length xs) s) (nat_lt s (length xs)) Unknown (Past (length xs)) Inner (end_at (suspension xs s) s)
     (dite (dec_lt s (length xs)) (λ lt. inr (lt-ltb s (length xs) lt)) (λ not. inl (or_right (eqb s 0) (nat_lt (length xs) s) (lt-ltb (length xs) s (omega arith))))))
 
@@ -182,16 +182,16 @@ pub opened_word : (xs : List (Option By)) → word_of (opened xs) ≡ ways * (le
 opened_word xs =
     let n = opened_length xs in
     let o : suspension (opened xs) (length (opened xs)) ≡ None = ap (suspension (opened xs)) (n ∙ add-one (length xs)) ∙ get_end xs in
-    let p : state_of (suspension (opened xs) (length (opened xs))) ≡ 0 = ap state_of o in omega arith
+    let p : way_number (suspension (opened xs) (length (opened xs))) ≡ 0 = ap way_number o in omega arith
 
 pub raised : (xs : List (Option By)) → max (word_of xs) (ways * (length xs + 1)) ≡ word_of (opened xs)
 raised xs = let l = state_small (suspension xs (length xs)) in let p = opened_word xs in omega arith
 
-claimed_word : (xs : List (Option By)) (s : ℕ) (by : By) → s ≡ length xs → 0 < s → word_of (claimed xs s by) ≡ ways * s + state_of (ended (suspension xs s) by)
+claimed_word : (xs : List (Option By)) (s : ℕ) (by : By) → s ≡ length xs → 0 < s → word_of (claimed xs s by) ≡ ways * s + way_number (ended_by (suspension xs s) by)
 claimed_word xs s by e l = let n : length (claimed xs s by) ≡ s = claimed_length xs s by ∙ sym e in
-    (λ i. ways * n i + state_of (suspension (claimed xs s by) (n i))) ∙ ap (λ o. ways * s + state_of o) (newest_claimed xs s by e l)
+    (λ i. ways * n i + way_number (suspension (claimed xs s by) (n i))) ∙ ap (λ o. ways * s + way_number o) (newest_claimed xs s by e l)
 
-kept_state : (o : Option By) (by : By) → state_of o ≢ 0 → state_of (ended o by) ≡ state_of o
+kept_state : (o : Option By) (by : By) → way_number o ≢ 0 → way_number (ended_by o by) ≡ way_number o
 kept_state None by ne = absurd (ne refl)
 kept_state (Some b) by ne = refl
 
@@ -201,12 +201,12 @@ exchanged xs s by some_serial =
     let small = state_small (suspension xs (length xs)) in
     dite (ℕ_discrete (word_of xs) (ways * s))
     (λ e. let n : s ≡ length xs = omega arith in
-    let z : state_of (suspension xs (length xs)) ≡ 0 = omega arith in
+    let z : way_number (suspension xs (length xs)) ≡ 0 = omega arith in
     let free : suspension xs s ≡ None = ap (suspension xs) n ∙ state_zero (suspension xs (length xs)) z in
-    ap (λ b. either b (ways * s + code by) (word_of xs)) (eq-eqb (word_of xs) (ways * s) e) ∙ sym (claimed_word xs s by n some_serial ∙ ap (λ o. ways * s + state_of (ended o by)) free))
+    ap (λ b. either b (ways * s + code by) (word_of xs)) (eq-eqb (word_of xs) (ways * s) e) ∙ sym (claimed_word xs s by n some_serial ∙ ap (λ o. ways * s + way_number (ended_by o by)) free))
     (λ ne. ap (λ b. either b (ways * s + code by) (word_of xs)) (ne_eqb (word_of xs) (ways * s) ne) ∙ sym (dite (ℕ_discrete s (length xs))
-    (λ n. let o : state_of (suspension xs s) ≢ 0 = (λ z. ne (let q : state_of (suspension xs (length xs)) ≡ 0 = ap (λ y. state_of (suspension xs y)) (sym n) ∙ z in omega arith)) in
-    claimed_word xs s by n some_serial ∙ (ap (λ z. ways * s + z) (kept_state (suspension xs s) by o) ∙ (λ i. ways * n i + state_of (suspension xs (n i)))))
+    (λ n. let o : way_number (suspension xs s) ≢ 0 = (λ z. ne (let q : way_number (suspension xs (length xs)) ≡ 0 = ap (λ y. way_number (suspension xs y)) (sym n) ∙ z in omega arith)) in
+    claimed_word xs s by n some_serial ∙ (ap (λ z. ways * s + z) (kept_state (suspension xs s) by o) ∙ (λ i. ways * n i + way_number (suspension xs (n i)))))
     (λ apart. ap word_of (claimed_other xs s by apart))))
 
 -- a claim that comes too early or is of serial 0 leaves the suspensions
@@ -298,25 +298,25 @@ won_is xs s p e = dite (dec_lt 0 s)
 
 pub claimed_won : (xs : List (Option By)) (s : ℕ) (by : By) (p : ℕ) → Won p ≡ claim_end xs s → word_of (claimed xs s by) ≡ word_of xs + code by
 claimed_won xs s by p e = let t = won_is xs s p e in
-    let a : word_of (claimed xs s by) ≡ ways * s + code by = claimed_word xs s by t.0 t.1 ∙ ap (λ o. ways * s + state_of (ended o by)) t.2 in
-    let b : state_of (suspension xs (length xs)) ≡ 0 = ap (λ z. state_of (suspension xs z)) (sym t.0) ∙ ap state_of t.2 in
+    let a : word_of (claimed xs s by) ≡ ways * s + code by = claimed_word xs s by t.0 t.1 ∙ ap (λ o. ways * s + way_number (ended_by o by)) t.2 in
+    let b : way_number (suspension xs (length xs)) ≡ 0 = ap (λ z. way_number (suspension xs z)) (sym t.0) ∙ ap way_number t.2 in
     let c = t.0 in omega arith
 
 pub claimed_lost : (xs : List (Option By)) (s : ℕ) (by : By) → ((p : ℕ) → ¬ (Won p ≡ claim_end xs s)) → word_of (claimed xs s by) ≡ word_of xs
 claimed_lost xs s by lost = dite (dec_lt 0 s)
     (λ some_serial. dite (ℕ_discrete s (length xs))
-    (λ n. claimed_word xs s by n some_serial ∙ (ap (λ z. ways * s + z) (had (suspension xs s) (λ none. lost (s - 1) (sym (claim_at xs s n some_serial ∙ ap (λ o. end_at o s) none)))) ∙ (λ i. ways * n i + state_of (suspension xs (n i)))))
+    (λ n. claimed_word xs s by n some_serial ∙ (ap (λ z. ways * s + z) (had (suspension xs s) (λ none. lost (s - 1) (sym (claim_at xs s n some_serial ∙ ap (λ o. end_at o s) none)))) ∙ (λ i. ways * n i + way_number (suspension xs (n i)))))
     (λ ne. ap word_of (claimed_other xs s by ne)))
     (λ zero. ap word_of (missed xs s by (inl (omega arith))))
   where
-    had : (o : Option By) → (o ≡ None → ⊥) → state_of (ended o by) ≡ state_of o
+    had : (o : Option By) → (o ≡ None → ⊥) → way_number (ended_by o by) ≡ way_number o
     had None f = absurd (f refl)
     had (Some b) f = refl
 
 -- who won a claim has seen it
 pub won_seen : (h : List ClaimEntry) (j s p : ℕ) (by : By) (end : ClaimEnd) → Won p ≡ claim_end (suspensions h) s → suspension (suspensions (h ++ recorded j (Claimed s by end) ∷ [])) s ≡ Some by
 won_seen h j s p by end e = let t = won_is (suspensions h) s p e in
-    ap (λ z. suspension z s) (suspensions_more h (recorded j (Claimed s by end))) ∙ (newest_claimed (suspensions h) s by t.0 t.1 ∙ ap (λ o. ended o by) t.2)
+    ap (λ z. suspension z s) (suspensions_more h (recorded j (Claimed s by end))) ∙ (newest_claimed (suspensions h) s by t.0 t.1 ∙ ap (λ o. ended_by o by) t.2)
 
 pub nonempty : {A : Type 0} {x : A} {l : List A} → x ∷ l ≡ [] → ⊥
 nonempty e = cc

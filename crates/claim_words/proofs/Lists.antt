@@ -6,24 +6,24 @@ use Rattle.std.specs.Prelude.{nat_lt}
 use mathlib.Core.Option.{some, some-injective, some-ne-none}
 use lib.ListN.{get_elem?}
 use mathlib.Core.List.{IsPrefix}
-use Rattle.claim_words.specs.Lists.{at, put, longer_of}
+use Rattle.claim_words.specs.Lists.{nth_list, with_nth_list, longer_lists}
 
 module _ {A : Type 0} where
-  pub at-put_same : (xs : List (List A)) (k : ℕ) (h : List A) → at (put xs k h) k ≡ h
-  at-put_same [] zero h = refl
-  at-put_same [] (suc k) h = at-put_same [] k h
-  at-put_same (x ∷ xs) zero h = refl
-  at-put_same (x ∷ xs) (suc k) h = at-put_same xs k h
+  pub nth_list-with_nth_list_same : (xs : List (List A)) (k : ℕ) (h : List A) → nth_list (with_nth_list xs k h) k ≡ h
+  nth_list-with_nth_list_same [] zero h = refl
+  nth_list-with_nth_list_same [] (suc k) h = nth_list-with_nth_list_same [] k h
+  nth_list-with_nth_list_same (x ∷ xs) zero h = refl
+  nth_list-with_nth_list_same (x ∷ xs) (suc k) h = nth_list-with_nth_list_same xs k h
 
-  pub at-put_other : (xs : List (List A)) (j k : ℕ) (h : List A) → j ≢ k → at (put xs k h) j ≡ at xs j
-  at-put_other [] zero zero h n = absurd (n refl)
-  at-put_other [] zero (suc k) h n = refl
-  at-put_other [] (suc j) zero h n = refl
-  at-put_other [] (suc j) (suc k) h n = at-put_other [] j k h (λ e. n (ap suc e))
-  at-put_other (x ∷ xs) zero zero h n = absurd (n refl)
-  at-put_other (x ∷ xs) zero (suc k) h n = refl
-  at-put_other (x ∷ xs) (suc j) zero h n = refl
-  at-put_other (x ∷ xs) (suc j) (suc k) h n = at-put_other xs j k h (λ e. n (ap suc e))
+  pub nth_list-with_nth_list_other : (xs : List (List A)) (j k : ℕ) (h : List A) → j ≢ k → nth_list (with_nth_list xs k h) j ≡ nth_list xs j
+  nth_list-with_nth_list_other [] zero zero h n = absurd (n refl)
+  nth_list-with_nth_list_other [] zero (suc k) h n = refl
+  nth_list-with_nth_list_other [] (suc j) zero h n = refl
+  nth_list-with_nth_list_other [] (suc j) (suc k) h n = nth_list-with_nth_list_other [] j k h (λ e. n (ap suc e))
+  nth_list-with_nth_list_other (x ∷ xs) zero zero h n = absurd (n refl)
+  nth_list-with_nth_list_other (x ∷ xs) zero (suc k) h n = refl
+  nth_list-with_nth_list_other (x ∷ xs) (suc j) zero h n = refl
+  nth_list-with_nth_list_other (x ∷ xs) (suc j) (suc k) h n = nth_list-with_nth_list_other xs j k h (λ e. n (ap suc e))
 
   pub begins_all : (xs : List A) → IsPrefix xs xs
   begins_all [] = ([], refl)
@@ -43,12 +43,12 @@ module _ {A : Type 0} where
   at_end (x ∷ xs) a b zero e = inl e
   at_end (x ∷ xs) a b (suc j) e = ⊎_elim (λ t. inl t) (λ (t : (j ≡ length xs) × (a ≡ b)). inr (ap suc t.0, t.1)) (at_end xs a b j e)
 
-  pub at_there : (xs : List (List A)) (i : ℕ) → i < length xs → get_elem? xs i ≡ some (at xs i)
+  pub at_there : (xs : List (List A)) (i : ℕ) → i < length xs → get_elem? xs i ≡ some (nth_list xs i)
   at_there [] i l = absurd (omega arith)
   at_there (x ∷ xs) zero l = refl
   at_there (x ∷ xs) (suc i) l = at_there xs i (omega arith)
 
-  pub at_past : (xs : List (List A)) (i : ℕ) → length xs ≤ i → at xs i ≡ []
+  pub at_past : (xs : List (List A)) (i : ℕ) → length xs ≤ i → nth_list xs i ≡ []
   at_past [] i l = refl
   at_past (x ∷ xs) zero l = absurd (omega arith)
   at_past (x ∷ xs) (suc i) l = at_past xs i (omega arith)
@@ -64,12 +64,12 @@ module _ {A : Type 0} where
   or_empty [] = refl
   or_empty (x ∷ xs) = sym (ap (λ b. cond b (x ∷ xs) []) (lt-ltb 0 (length (x ∷ xs)) (omega arith)))
 
-  pub at-longer_of : (xs ys : List (List A)) (k : ℕ) → at (longer_of xs ys) k ≡ cond (nat_lt (length (at xs k)) (length (at ys k))) (at ys k) (at xs k)
-  at-longer_of [] ys k = or_empty (at ys k)
-  at-longer_of (x ∷ xs) [] zero = never_shorter (length x) x
-  at-longer_of (x ∷ xs) [] (suc k) = never_shorter (length (at xs k)) (at xs k)
-  at-longer_of (x ∷ xs) (y ∷ ys) zero = refl
-  at-longer_of (x ∷ xs) (y ∷ ys) (suc k) = at-longer_of xs ys k
+  pub nth_list-longer_lists : (xs ys : List (List A)) (k : ℕ) → nth_list (longer_lists xs ys) k ≡ cond (nat_lt (length (nth_list xs k)) (length (nth_list ys k))) (nth_list ys k) (nth_list xs k)
+  nth_list-longer_lists [] ys k = or_empty (nth_list ys k)
+  nth_list-longer_lists (x ∷ xs) [] zero = never_shorter (length x) x
+  nth_list-longer_lists (x ∷ xs) [] (suc k) = never_shorter (length (nth_list xs k)) (nth_list xs k)
+  nth_list-longer_lists (x ∷ xs) (y ∷ ys) zero = refl
+  nth_list-longer_lists (x ∷ xs) (y ∷ ys) (suc k) = nth_list-longer_lists xs ys k
 
   begins_length : (v h : List A) → IsPrefix v h → length v ≤ length h
   begins_length v h b = let e : length v + length b.0 ≡ length h = sym (length-append v b.0) ∙ ap length b.1 in omega arith
@@ -91,8 +91,8 @@ module _ {A : Type 0} (a b h : List A) where
   best p q known false is = ⊎_elim (λ e. e)
       (λ (e : b ≡ h). let l = ltb-false (length a) (length b) is in let n : length b ≡ length h = ap length e in begins_whole a h p (omega arith)) known
 
-pub seen_best : {A : Type 0} (xs ys : List (List A)) (k : ℕ) (h : List A) → IsPrefix (at xs k) h → IsPrefix (at ys k) h → (at xs k ≡ h) ⊎ (at ys k ≡ h) → at (longer_of xs ys) k ≡ h
-seen_best xs ys k h p q known = at-longer_of xs ys k ∙ best (at xs k) (at ys k) h p q known (nat_lt (length (at xs k)) (length (at ys k))) refl
+pub seen_best : {A : Type 0} (xs ys : List (List A)) (k : ℕ) (h : List A) → IsPrefix (nth_list xs k) h → IsPrefix (nth_list ys k) h → (nth_list xs k ≡ h) ⊎ (nth_list ys k ≡ h) → nth_list (longer_lists xs ys) k ≡ h
+seen_best xs ys k h p q known = nth_list-longer_lists xs ys k ∙ best (nth_list xs k) (nth_list ys k) h p q known (nat_lt (length (nth_list xs k)) (length (nth_list ys k))) refl
 
-pub seen_begins : {A : Type 0} (xs ys : List (List A)) (k : ℕ) (h : List A) → IsPrefix (at xs k) h → IsPrefix (at ys k) h → IsPrefix (at (longer_of xs ys) k) h
-seen_begins {A} xs ys k h p q = subst (λ (z : List A). IsPrefix z h) (sym (at-longer_of xs ys k)) (either_begins (at xs k) (at ys k) h p q (nat_lt (length (at xs k)) (length (at ys k))))
+pub seen_begins : {A : Type 0} (xs ys : List (List A)) (k : ℕ) (h : List A) → IsPrefix (nth_list xs k) h → IsPrefix (nth_list ys k) h → IsPrefix (nth_list (longer_lists xs ys) k) h
+seen_begins {A} xs ys k h p q = subst (λ (z : List A). IsPrefix z h) (sym (nth_list-longer_lists xs ys k)) (either_begins (nth_list xs k) (nth_list ys k) h p q (nat_lt (length (nth_list xs k)) (length (nth_list ys k))))

@@ -9,7 +9,7 @@ use lib.ListN.{get_elem?}
 use Rattle.atomic_table.specs.Table.{Me, keeps, step, Allows}
 use Rattle.atomic_table.proofs.Lists.{at_set, set_here, set_else, set_again}
 use mathlib.Core.List.{IsPrefix}
-use Rattle.claim_words.specs.Lists.{at, put}
+use Rattle.claim_words.specs.Lists.{nth_list, with_nth_list}
 use Rattle.claim_words.specs.declared.By.{By}
 use Rattle.claim_words.specs.declared.ClaimEnd.{ClaimEnd}
 use Rattle.claim_words.specs.declared.ClaimEnd.TheVariants.{Unknown}
@@ -20,10 +20,10 @@ use Rattle.claim_words.specs.declared.view.SeatKind.TheVariants.{Spent, Maker, D
 use Rattle.claim_words.specs.declared.view.Clerk.{Clerk}
 use Rattle.histories.specs.Records.{recorded}
 use Rattle.claim_words.specs.Suspensions.{suspension, suspensions, opened, claimed, claim_end, after, IsAnswer, ClaimEntry, IsClaimHistory}
-use Rattle.claim_words.specs.Words.{ways, code, answer, word_of}
+use Rattle.claim_words.specs.Words.{ways, code, end_by_word, word_of}
 use Rattle.claim_words.specs.Claims.{author, made_by, of_slot, WordsState, IsTakenIn, ClerkKnows, IsSeenWhole, IsSlotWord, ClaimsKept, acted, HasClaimed, HasOpened, TellsOpened, TellsClaimed, TellsMissed, TellsNewest}
-use Rattle.claim_words.proofs.Lists.{at-put_same, at-put_other, begins_all, begins_more, at_below}
-use Rattle.claim_words.proofs.Items.{opened_length, claimed_length, suspensions_more, history_more, listed_own, listed_other, given_own, given_other, answer_law, raised, exchanged, missed, unknown}
+use Rattle.claim_words.proofs.Lists.{nth_list-with_nth_list_same, nth_list-with_nth_list_other, begins_all, begins_more, at_below}
+use Rattle.claim_words.proofs.Items.{opened_length, claimed_length, suspensions_more, history_more, listed_own, listed_other, given_own, given_other, end_by_word_law, raised, exchanged, missed, unknown}
 
 abbrev Log : Type 0
 Log = List ClaimEntry
@@ -116,8 +116,8 @@ module _ (top : ℕ) (key : ℕ × ℕ) (s : WordsState) (r : ClaimsKept top key
               );
               newest = λ _ i is_i l. newest i is_i l;
               makes = λ m. absurd (desk_maker (sym is ∙ m));
-              seen = at_each (λ i h. IsPrefix (at (put v.seen k h') i) h) r.hs k h' (subst (λ (z : Log). IsPrefix z h') (sym (at-put_same v.seen k h')) (begins_all h'))
-                  (λ i ne. subst (λ (z : Log). IsPrefix z (r.hs i)) (sym (at-put_other v.seen i k h' ne)) (my.seen i));
+              seen = at_each (λ i h. IsPrefix (nth_list (with_nth_list v.seen k h') i) h) r.hs k h' (subst (λ (z : Log). IsPrefix z h') (sym (nth_list-with_nth_list_same v.seen k h')) (begins_all h'))
+                  (λ i ne. subst (λ (z : Log). IsPrefix z (r.hs i)) (sym (nth_list-with_nth_list_other v.seen i k h' ne)) (my.seen i));
               has = same_got v id here is mine.0 by my;
             })
             (λ (t : (j ≢ id) × (get_elem? s.views j ≡ some u)). let known = r.views j u t.1 in record {
@@ -130,18 +130,18 @@ module _ (top : ℕ) (key : ℕ × ℕ) (s : WordsState) (r : ClaimsKept top key
                 old.2,
               );
               makes = known.makes;
-              seen = at_each (λ i h. IsPrefix (at u.seen i) h) r.hs k h' (begins_more (at u.seen k) (r.hs k) (e ∷ []) (known.seen k)) (λ i _. known.seen i);
+              seen = at_each (λ i h. IsPrefix (nth_list u.seen i) h) r.hs k h' (begins_more (nth_list u.seen k) (r.hs k) (e ∷ []) (known.seen k)) (λ i _. known.seen i);
               has = same_got u j here is mine.0 by known;
             })
             (at_set s.views id j became u at_j);
         nobody = λ m i l. at_each (λ z h. made_by key.1 m z h ≡ []) r.hs k h' (listed_other key.1 m k (r.hs k) e (λ q. let a : v.number ≡ m = sym by ∙ q in let b = mine.1 in omega arith) ∙ r.nobody m k l) (λ z _. r.nobody m z l) i;
         few = r.few;
         known = at_each (λ z h. (h ≡ []) ⊎ IsSeenWhole (set s.views id became) z h) r.hs k h'
-            (inr (id, became, set_here s.views id became (at_below s.views id v here), is, at-put_same v.seen k h'))
+            (inr (id, became, set_here s.views id became (at_below s.views id v here), is, nth_list-with_nth_list_same v.seen k h'))
             (λ z ne. ⊎_elim (λ (q : r.hs z ≡ []). inl q)
             (λ (t : IsSeenWhole s.views z (r.hs z)). inr (dite (ℕ_discrete t.0 id)
             (λ same. let v_is : v ≡ t.1 = some-injective v t.1 (sym here ∙ subst (λ (y : ℕ). get_elem? s.views y ≡ some t.1) same t.2) in
-            (id, became, set_here s.views id became (at_below s.views id v here), is, at-put_other v.seen z k h' ne ∙ (ap (λ (y : Clerk). at y.seen z) v_is ∙ t.4)))
+            (id, became, set_here s.views id became (at_below s.views id v here), is, nth_list-with_nth_list_other v.seen z k h' ne ∙ (ap (λ (y : Clerk). nth_list y.seen z) v_is ∙ t.4)))
             (λ apart. (t.0, t.1, set_else s.views id t.0 became apart ∙ t.2, t.3, t.4))))
             (r.known z));
       }
@@ -179,7 +179,7 @@ module _ (top : ℕ) (key : ℕ × ℕ) (slots id k : ℕ) (me : Me (Unit {0}) C
       → Allows (ClaimsKept top key) slots id me k (λ n. either (eqb n (ways * serial)) new n) (TellsClaimed j picked way (step slots k (ways * serial) new none) me)
   exchanges serial number j picked new by way is number_is inside some_serial a b c d =
       subst (λ (z : ℕ × By × ℕ). Allows (ClaimsKept top key) slots id me k (λ n. either (eqb n (ways * serial)) z.2 n) (TellsClaimed j z.0 z.1 (step slots k (ways * serial) z.2 none) me)) (λ i. (sym b i, sym c i, sym d i))
-      (claims_allowed serial j by (λ n. either (eqb n (ways * serial)) (ways * serial + code by) n) (λ n. answer n serial) is (number_is ∙ sym a) inside (λ xs _. (exchanged xs serial by some_serial, answer_law xs serial)))
+      (claims_allowed serial j by (λ n. either (eqb n (ways * serial)) (ways * serial + code by) n) (λ n. end_by_word n serial) is (number_is ∙ sym a) inside (λ xs _. (exchanged xs serial by some_serial, end_by_word_law xs serial)))
 
   pub misses : (serial number j picked : ℕ) (by way : By) → me.0.kind ≡ Desk → me.0.number ≡ number → k < key.0 → (serial ≤ top → serial ≡ 0) → j ≡ number → picked ≡ serial → way ≡ by
       → Allows (ClaimsKept top key) slots id me k (λ n. n) (TellsMissed j picked way (step slots k 0 0 none) me)

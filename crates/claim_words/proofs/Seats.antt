@@ -10,7 +10,7 @@ use Rattle.atomic_table.specs.Seated.{TableId}
 use Rattle.atomic_table.specs.declared.shared.Seat.{Seat}
 use Rattle.atomic_table.proofs.Lists.{at_set, set_here, set_else, at_longer}
 use mathlib.Core.List.{IsPrefix}
-use Rattle.claim_words.specs.Lists.{at, put, longer_of}
+use Rattle.claim_words.specs.Lists.{nth_list, with_nth_list, longer_lists}
 use Rattle.claim_words.specs.declared.By.{By}
 use Rattle.claim_words.specs.declared.ClaimEnd.{ClaimEnd}
 use Rattle.claim_words.specs.declared.ClaimEnd.TheVariants.{Won}
@@ -22,8 +22,8 @@ use Rattle.claim_words.specs.declared.view.Clerk.{Clerk}
 use Rattle.histories.specs.Records.{recorded}
 use Rattle.claim_words.specs.Suspensions.{suspensions, suspension, ClaimEntry, IsClaimHistory}
 use Rattle.claim_words.specs.Words.{word_of}
-use Rattle.claim_words.specs.Claims.{made_by, of_slot, WordsState, IsTakenIn, ClerkKnows, IsSeenWhole, IsSlotWord, ClaimsKept, spent, maker, desk, dealt, fresh, note_of, joined, met, IsDesk, AreNumbered, ClaimSeat, ClaimsClosed, HasClaimed}
-use Rattle.claim_words.proofs.Lists.{begins_all, begins_more, at_below, at_end, at_there, at_past, seen_best, seen_begins, nil_ends, at-put_same}
+use Rattle.claim_words.specs.Claims.{made_by, of_slot, WordsState, IsTakenIn, ClerkKnows, IsSeenWhole, IsSlotWord, ClaimsKept, spent_clerk, maker, desk, dealt, fresh_desk, note_of, joined_desks, met, IsDesk, AreNumbered, ClaimSeat, ClaimsClosed, HasClaimed}
+use Rattle.claim_words.proofs.Lists.{begins_all, begins_more, at_below, at_end, at_there, at_past, seen_best, seen_begins, nil_ends, nth_list-with_nth_list_same}
 use Rattle.claim_words.proofs.Items.{length_more, no_opens, nonempty, won_seen}
 use Rattle.claim_words.proofs.Rule.{still_gone, desk_alive, desk_gone}
 
@@ -96,11 +96,11 @@ own_other f n a m ne = ap (λ b. cond b a (f m)) (ne_eqb m n ne)
 
 module _ (top : ℕ) (key : ℕ × ℕ) where
   -- the maker makes the next number
-  pub deals : (id m : ℕ) (v : Clerk) → v ≡ maker key.1 m → m < key.1 + key.0 → Splits (ClaimsKept top key) id v (dealt v) (fresh v)
+  pub deals : (id m : ℕ) (v : Clerk) → v ≡ maker key.1 m → m < key.1 + key.0 → Splits (ClaimsKept top key) id v (dealt v) (fresh_desk v)
   deals id m v is room s r here =
       let kind : v.kind ≡ Maker = ap (λ (z : Clerk). z.kind) is in
       let left : Clerk = dealt v in
-      let right : Clerk = fresh v in
+      let right : Clerk = fresh_desk v in
       let views : List Clerk = set s.views id left ++ right ∷ [] in
       let s' : WordsState = record { words = s.words; homes = s.homes; views = views } in
       let my = r.views id v here in
@@ -192,7 +192,7 @@ module _ (top : ℕ) (key : ℕ × ℕ) where
         known = λ k. ⊎_elim (λ (e : r.hs k ≡ []). inl e)
             (λ (t : IsSeenWhole s.views k (r.hs k)). inr (dite (ℕ_discrete t.0 id)
             (λ e. let v_is : v ≡ t.1 = some-injective v t.1 (sym here ∙ subst (λ (y : ℕ). get_elem? s.views y ≡ some t.1) e t.2) in
-            (id, v, at_longer (set s.views id v) (right ∷ []) id v (set_here s.views id v (at_below s.views id v here)), kind, ap (λ (y : Clerk). at y.seen k) v_is ∙ t.4))
+            (id, v, at_longer (set s.views id v) (right ∷ []) id v (set_here s.views id v (at_below s.views id v here)), kind, ap (λ (y : Clerk). nth_list y.seen k) v_is ∙ t.4))
             (λ ne. (t.0, t.1, at_longer (set s.views id v) (right ∷ []) t.0 t.1 (set_else s.views id t.0 v ne ∙ t.2), t.3, t.4))))
             (r.known k);
       }
@@ -203,7 +203,7 @@ module _ (top : ℕ) (key : ℕ × ℕ) where
     views1 = set s.views id both
 
     abbrev views2 : List Clerk
-    views2 = set views1 other spent
+    views2 = set views1 other spent_clerk
 
     abbrev later : WordsState
     later = record { words = s.words; homes = s.homes; views = views2 }
@@ -212,25 +212,25 @@ module _ (top : ℕ) (key : ℕ × ℕ) where
     was = sym (set_else s.views id other both apart) ∙ there
 
     gone : (i : ℕ) → IsTakenIn s i → IsTakenIn later i
-    gone i t = let a = still_gone s id v both here (desk_alive v kind) i t in let b = still_gone s other w spent was alive i t in (a.1, set_else views1 other i spent b.0 ∙ a.2, a.3)
+    gone i t = let a = still_gone s id v both here (desk_alive v kind) i t in let b = still_gone s other w spent_clerk was alive i t in (a.1, set_else views1 other i spent_clerk b.0 ∙ a.2, a.3)
 
     ended_there : IsTakenIn later other
-    ended_there = (spent, set_here views1 other spent (at_below views1 other w there), refl)
+    ended_there = (spent_clerk, set_here views1 other spent_clerk (at_below views1 other w there), refl)
 
     still : (u : Clerk) (j : ℕ) → ClerkKnows key.1 key.0 r.made r.hs r.owner s j u → ClerkKnows key.1 key.0 r.made r.hs r.owner later j u
     still u j old = record { right = old.right; newest = old.newest; makes = old.makes; seen = old.seen; has = λ i l e. let t = old.has i l e in (gone (r.owner (suc i)) t.0, t.1, t.2) }
 
-    takes_in : both.kind ≡ Desk → both.seen ≡ longer_of v.seen w.seen → ClerkKnows key.1 key.0 r.made r.hs r.owner later id both → ClaimsKept top key later
+    takes_in : both.kind ≡ Desk → both.seen ≡ longer_lists v.seen w.seen → ClerkKnows key.1 key.0 r.made r.hs r.owner later id both → ClaimsKept top key later
     takes_in kind' seen_is mine =
-        let best_seen : (k : ℕ) → (at v.seen k ≡ r.hs k) ⊎ (at w.seen k ≡ r.hs k) → at both.seen k ≡ r.hs k = λ k q. ap (λ z. at z k) seen_is ∙ seen_best v.seen w.seen k (r.hs k) ((r.views id v here).seen k) ((r.views other w was).seen k) q in
-        let id_there : get_elem? views2 id ≡ some both = set_else views1 other id spent (λ e. apart (sym e)) ∙ set_here s.views id both (at_below s.views id v here) in record {
+        let best_seen : (k : ℕ) → (nth_list v.seen k ≡ r.hs k) ⊎ (nth_list w.seen k ≡ r.hs k) → nth_list both.seen k ≡ r.hs k = λ k q. ap (λ z. nth_list z k) seen_is ∙ seen_best v.seen w.seen k (r.hs k) ((r.views id v here).seen k) ((r.views other w was).seen k) q in
+        let id_there : get_elem? views2 id ≡ some both = set_else views1 other id spent_clerk (λ e. apart (sym e)) ∙ set_here s.views id both (at_below s.views id v here) in record {
           hs = r.hs;
           owner = r.owner;
           made = r.made;
           wide = r.wide;
           words = r.words;
           views = λ j u at_j. ⊎_elim
-              (λ (t : (j ≡ other) × (spent ≡ u)). subst (λ (z : Clerk). ClerkKnows key.1 key.0 r.made r.hs r.owner later j z) t.1 record {
+              (λ (t : (j ≡ other) × (spent_clerk ≡ u)). subst (λ (z : Clerk). ClerkKnows key.1 key.0 r.made r.hs r.owner later j z) t.1 record {
                 right = λ d. absurd (spent_desk d);
                 newest = λ d. absurd (spent_desk d);
                 makes = λ d. absurd (spent_maker d);
@@ -241,22 +241,22 @@ module _ (top : ℕ) (key : ℕ × ℕ) where
               (λ (q : (j ≡ id) × (both ≡ u)). subst (λ (z : ℕ × Clerk). ClerkKnows key.1 key.0 r.made r.hs r.owner later z.0 z.1) (λ x. (sym q.0 x, q.1 x)) mine)
               (λ (q : (j ≢ id) × (get_elem? s.views j ≡ some u)). still u j (r.views j u q.1))
               (at_set s.views id j both u t.1))
-              (at_set views1 other j spent u at_j);
+              (at_set views1 other j spent_clerk u at_j);
           nobody = r.nobody;
           few = r.few;
           known = λ k. ⊎_elim (λ (e : r.hs k ≡ []). inl e)
               (λ (t : IsSeenWhole s.views k (r.hs k)). inr (dite (ℕ_discrete t.0 id)
               (λ e. let v_is : v ≡ t.1 = some-injective v t.1 (sym here ∙ subst (λ (y : ℕ). get_elem? s.views y ≡ some t.1) e t.2) in
-              (id, both, id_there, kind', best_seen k (inl (ap (λ (y : Clerk). at y.seen k) v_is ∙ t.4))))
+              (id, both, id_there, kind', best_seen k (inl (ap (λ (y : Clerk). nth_list y.seen k) v_is ∙ t.4))))
               (λ ne. dite (ℕ_discrete t.0 other)
               (λ e. let w_is : w ≡ t.1 = some-injective w t.1 (sym was ∙ subst (λ (y : ℕ). get_elem? s.views y ≡ some t.1) e t.2) in
-              (id, both, id_there, kind', best_seen k (inr (ap (λ (y : Clerk). at y.seen k) w_is ∙ t.4))))
-              (λ ne'. (t.0, t.1, set_else views1 other t.0 spent ne' ∙ (set_else s.views id t.0 both ne ∙ t.2), t.3, t.4)))))
+              (id, both, id_there, kind', best_seen k (inr (ap (λ (y : Clerk). nth_list y.seen k) w_is ∙ t.4))))
+              (λ ne'. (t.0, t.1, set_else views1 other t.0 spent_clerk ne' ∙ (set_else s.views id t.0 both ne ∙ t.2), t.3, t.4)))))
               (r.known k);
         }
 
   -- an Opener takes in a note
-  pub meets : (id : ℕ) (v : Clerk) (other : ℕ) (w : Clerk) → v.kind ≡ Desk → w.kind ≡ Note → Joins (ClaimsKept top key) id v other w (met v w) spent
+  pub meets : (id : ℕ) (v : Clerk) (other : ℕ) (w : Clerk) → v.kind ≡ Desk → w.kind ≡ Note → Joins (ClaimsKept top key) id v other w (met v w) spent_clerk
   meets id v other w kind note s r here apart there =
       let alive : w.kind ≡ Spent → ⊥ = λ e. note_spent (sym note ∙ e) in
       let both : Clerk = met v w in
@@ -264,17 +264,17 @@ module _ (top : ℕ) (key : ℕ × ℕ) where
       let their = r.views other w (was id other v w both s r here apart there kind alive) in
       takes_in id other v w both s r here apart there kind alive kind refl record {
         right = my.right;
-        newest = λ d k n l. let o = my.newest d k n l in (o.0, (let a = o.1 in let b = begun_below (at w.seen k) (r.hs k) (their.seen k) in let c : length (suspensions (at w.seen v.slot)) ≡ length (suspensions (at w.seen k)) = ap (λ z. length (suspensions (at w.seen z))) o.2 in let e = o.0 in omega arith), o.2);
+        newest = λ d k n l. let o = my.newest d k n l in (o.0, (let a = o.1 in let b = begun_below (nth_list w.seen k) (r.hs k) (their.seen k) in let c : length (suspensions (nth_list w.seen v.slot)) ≡ length (suspensions (nth_list w.seen k)) = ap (λ z. length (suspensions (nth_list w.seen z))) o.2 in let e = o.0 in omega arith), o.2);
         makes = my.makes;
         seen = λ k. seen_begins v.seen w.seen k (r.hs k) (my.seen k) (their.seen k);
         has = λ i l e. let t = my.has i l e in (gone id other v w both s r here apart there kind alive (r.owner (suc i)) t.0, t.1, t.2);
       }
 
   -- a pass takes in the next number
-  pub joins : (id : ℕ) (v : Clerk) (other : ℕ) (w : Clerk) → v.kind ≡ Desk → w.kind ≡ Desk → w.number ≡ length v.got + 1 → Joins (ClaimsKept top key) id v other w (joined v w) spent
+  pub joins : (id : ℕ) (v : Clerk) (other : ℕ) (w : Clerk) → v.kind ≡ Desk → w.kind ≡ Desk → w.number ≡ length v.got + 1 → Joins (ClaimsKept top key) id v other w (joined_desks v w) spent_clerk
   joins id v other w kind kind_w next s r here apart there =
       let alive : w.kind ≡ Spent → ⊥ = desk_alive w kind_w in
-      let both : Clerk = joined v w in
+      let both : Clerk = joined_desks v w in
       let my = r.views id v here in
       let their = r.views other w (was id other v w both s r here apart there kind alive) in
       let theirs = their.right kind_w in
@@ -297,8 +297,8 @@ module _ (top : ℕ) (key : ℕ × ℕ) (s : WordsState) (r : ClaimsKept top key
   mine : ClerkKnows key.1 key.0 r.made r.hs r.owner s id v
   mine = r.views id v here
 
-  got_at : (n : ℕ) → suc n < r.made → IsTakenIn s (r.owner (suc n)) × (suc n < r.made) × ((k : ℕ) → made_by key.1 (suc n) k (r.hs k) ≡ of_slot k (at v.got n))
-  got_at n l = mine.has n (at v.got n) (at_there v.got n (let a = r.few in omega arith))
+  got_at : (n : ℕ) → suc n < r.made → IsTakenIn s (r.owner (suc n)) × (suc n < r.made) × ((k : ℕ) → made_by key.1 (suc n) k (r.hs k) ≡ of_slot k (nth_list v.got n))
+  got_at n l = mine.has n (nth_list v.got n) (at_there v.got n (let a = r.few in omega arith))
 
   -- no other pass or Opener is left
   only : (j : ℕ) (u : Clerk) → get_elem? s.views j ≡ some u → u.kind ≡ Desk → v ≡ u
@@ -309,22 +309,22 @@ module _ (top : ℕ) (key : ℕ × ℕ) (s : WordsState) (r : ClaimsKept top key
       named (suc n) e = let o = (r.views j u is).right d in let g = (got_at n (subst (λ (z : ℕ). z < r.made) e o.1)).0 in
           absurd (desk_gone u g.0 d g.2 (some-injective u g.0 (sym is ∙ subst (λ (z : ℕ). get_elem? s.views z ≡ some g.0) (ap r.owner (sym e) ∙ o.0) g.1)))
 
-  whole : (k : ℕ) → at v.seen k ≡ r.hs k
+  whole : (k : ℕ) → nth_list v.seen k ≡ r.hs k
   whole k = ⊎_elim
-      (λ (e : r.hs k ≡ []). empty (at v.seen k) (subst (λ (z : List ClaimEntry). IsPrefix (at v.seen k) z) e (mine.seen k)) ∙ sym e)
-      (λ (t : IsSeenWhole s.views k (r.hs k)). ap (λ (z : Clerk). at z.seen k) (only t.0 t.1 t.2 t.3) ∙ t.4)
+      (λ (e : r.hs k ≡ []). empty (nth_list v.seen k) (subst (λ (z : List ClaimEntry). IsPrefix (nth_list v.seen k) z) e (mine.seen k)) ∙ sym e)
+      (λ (t : IsSeenWhole s.views k (r.hs k)). ap (λ (z : Clerk). nth_list z.seen k) (only t.0 t.1 t.2 t.3) ∙ t.4)
       (r.known k)
     where
       empty : (xs : List ClaimEntry) → IsPrefix xs [] → xs ≡ []
       empty [] b = refl
       empty (x ∷ xs) b = absurd (nonempty b.1)
 
-  lists : (n k : ℕ) → made_by key.1 n k (r.hs k) ≡ of_slot k (at (v.mine ∷ v.got) n)
+  lists : (n k : ℕ) → made_by key.1 n k (r.hs k) ≡ of_slot k (nth_list (v.mine ∷ v.got) n)
   lists zero k = subst (λ (z : ℕ). made_by key.1 z k (r.hs k) ≡ of_slot k v.mine) first ((mine.right kind).2 k)
   lists (suc n) k = dite (dec_lt (suc n) r.made)
       (λ l. (got_at n l).2 k)
       (λ not. dite (dec_lt n (length v.got))
-      (λ l. (mine.has n (at v.got n) (at_there v.got n l)).2 k)
+      (λ l. (mine.has n (nth_list v.got n) (at_there v.got n l)).2 k)
       (λ past. r.nobody (suc n) k (omega arith) ∙ ap (of_slot k) (sym (at_past v.got n (omega arith)))))
 
 pub closes : (top : ℕ) (key : ℕ × ℕ) (id : ℕ) (v : Clerk) (ws : List ℕ) (xs : List (Unit {0})) → v.kind ≡ Desk → v.number ≡ 0 → length v.got + 1 ≡ key.1 + key.0 → Final (Seen (ClaimsKept top key) id v) ws xs → ClaimsClosed key.1 key.0 v
@@ -337,9 +337,9 @@ closes top key id v ws xs kind first all f =
     }
 
 -- who won a claim has seen it won
-pub won_claimed : (k j s : ℕ) (by : By) (v : Clerk) (end : ClaimEnd) (w : Clerk) → HasClaimed k j s by v end w → (p : ℕ) → end ≡ Won p → suspension (suspensions (at w.seen k)) s ≡ Some by
+pub won_claimed : (k j s : ℕ) (by : By) (v : Clerk) (end : ClaimEnd) (w : Clerk) → HasClaimed k j s by v end w → (p : ℕ) → end ≡ Won p → suspension (suspensions (nth_list w.seen k)) s ≡ Some by
 won_claimed k j s by v end w c p e =
-    ap (λ (z : Clerk). suspension (suspensions (at z.seen k)) s) c.view ∙ (ap (λ z. suspension (suspensions z) s) (at-put_same v.seen k (c.history ++ recorded j (Claimed s by end) ∷ [])) ∙ won_seen c.history j s p by end (sym e ∙ c.right))
+    ap (λ (z : Clerk). suspension (suspensions (nth_list z.seen k)) s) c.view ∙ (ap (λ z. suspension (suspensions z) s) (nth_list-with_nth_list_same v.seen k (c.history ++ recorded j (Claimed s by end) ∷ [])) ∙ won_seen c.history j s p by end (sym e ∙ c.right))
 
 module _ {A : Type 0} where
   pub one_more : (P : ℕ → A → Type 0) (ps : List A) (next : A) → ((i : ℕ) (p : A) → get_elem? ps i ≡ some p → P i p) → P (length ps) next → (i : ℕ) (p : A) → get_elem? (ps ++ next ∷ []) i ≡ some p → P i p

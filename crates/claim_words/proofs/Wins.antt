@@ -9,7 +9,7 @@ use Rattle.claim_words.specs.declared.ClaimRecord.{ClaimRecord}
 use Rattle.claim_words.specs.declared.ClaimRecord.TheVariants.{Opened, Claimed}
 use Rattle.histories.specs.Runs.{folded, EachAnswers}
 use Rattle.histories.specs.Records.{records}
-use Rattle.claim_words.specs.Suspensions.{suspension, ended, opened, claimed, claim_end, end_at, after, IsAnswer, suspensions, win, wins, ClaimEntry, IsClaimHistory}
+use Rattle.claim_words.specs.Suspensions.{suspension, ended_by, opened, claimed, claim_end, end_at, after, IsAnswer, suspensions, win, wins, ClaimEntry, IsClaimHistory}
 use Rattle.claim_words.proofs.Items.{claimed_other, claimed_same, newest_claimed, missed, won_is, claim_at}
 
 abbrev done : Option By → ℕ
@@ -29,7 +29,7 @@ item_opened xs (suc s) = same_get xs s
 item_other : (xs : List (Option By)) (s t : ℕ) (by : By) → 0 < t → s ≢ t → suspension (claimed xs t by) s ≡ suspension xs s
 item_other xs zero t by l ne = refl
 item_other xs (suc n) t by l ne = dite (ℕ_discrete t (length xs))
-    (λ is. ap (λ z. suspension z (suc n)) (claimed_same xs t by is) ∙ get_or-set_other xs (t - 1) n (ended (suspension xs t) by) None (λ q. ne (omega arith)))
+    (λ is. ap (λ z. suspension z (suc n)) (claimed_same xs t by is) ∙ get_or-set_other xs (t - 1) n (ended_by (suspension xs t) by) None (λ q. ne (omega arith)))
     (λ apart. ap (λ z. suspension z (suc n)) (claimed_other xs t by apart))
 
 kept : (xs : List (Option By)) (s t : ℕ) (by : By) → ((p : ℕ) → ¬ (Won p ≡ claim_end xs t)) → done (suspension (claimed xs t by) s) ≡ done (suspension xs s)
@@ -42,7 +42,7 @@ kept xs s t by lost = dite (dec_lt 0 t)
     (λ ne. ap (λ z. done (suspension z s)) (claimed_other xs t by ne)))
     (λ zero. ap (λ z. done (suspension z s)) (missed xs t by (inl (omega arith))))
   where
-    had : (o : Option By) → (o ≡ None → ⊥) → done (ended o by) ≡ done o
+    had : (o : Option By) → (o ≡ None → ⊥) → done (ended_by o by) ≡ done o
     had None f = absurd (f refl)
     had (Some b) f = refl
 
@@ -62,7 +62,7 @@ counts : (xs : List (Option By)) (s t : ℕ) (by : By) (end : ClaimEnd) → end 
 counts xs s t by (Won p) e = let w = won_is xs t p e in dite (ℕ_discrete t s)
     (λ same. let a : win s (Claimed t by (Won p)) ≡ 1 = ap pick (eq-eqb t s same) in
     let b : done (suspension xs s) ≡ 0 = ap (λ z. done (suspension xs z)) (sym same) ∙ ap done w.2 in
-    let c : done (suspension (claimed xs t by) s) ≡ 1 = ap (λ z. done (suspension (claimed xs t by) z)) (sym same) ∙ (ap done (newest_claimed xs t by w.0 w.1) ∙ ap (λ o. done (ended o by)) w.2) in omega arith)
+    let c : done (suspension (claimed xs t by) s) ≡ 1 = ap (λ z. done (suspension (claimed xs t by) z)) (sym same) ∙ (ap done (newest_claimed xs t by w.0 w.1) ∙ ap (λ o. done (ended_by o by)) w.2) in omega arith)
     (λ ne. let a : win s (Claimed t by (Won p)) ≡ 0 = ap pick (ne_eqb t s ne) in
     let c : done (suspension (claimed xs t by) s) ≡ done (suspension xs s) = ap done (item_other xs s t by w.1 (λ q. ne (sym q))) in omega arith)
 counts xs s t by (Lost b) e = let k = kept xs s t by (λ p q. won_lost (q ∙ sym e)) in omega arith

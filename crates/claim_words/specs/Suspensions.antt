@@ -28,13 +28,13 @@ abbrev pub opened : Suspensions → Suspensions
 opened xs = xs ++ None ∷ []
 
 -- only who comes first ends it
-abbrev pub ended : Option By → By → Option By
-ended None by = Some by
-ended (Some first) by = Some first
+abbrev pub ended_by : Option By → By → Option By
+ended_by None by = Some by
+ended_by (Some first) by = Some first
 
 -- Claim: the latest is ended, where it is open
 abbrev pub claimed : Suspensions → ℕ → By → Suspensions
-claimed xs serial by = cond (serial == length xs) (slice_set xs (serial - 1) (ended (suspension xs serial) by)) xs
+claimed xs serial by = cond (serial == length xs) (slice_set xs (serial - 1) (ended_by (suspension xs serial) by)) xs
 
 -- the claim of the latest was won where it was open, and lost to who ended it
 abbrev pub end_at : Option By → ℕ → ClaimEnd

@@ -21,13 +21,13 @@ abbrev pub by_of : ℕ → By
 by_of n = cond (n == 1) Continued (cond (n == 2) TimedOut Cancelled)
 
 -- the number of a suspension: 0 while it is open
-abbrev pub state_of : Option By → ℕ
-state_of None = 0
-state_of (Some by) = code by
+abbrev pub way_number : Option By → ℕ
+way_number None = 0
+way_number (Some by) = code by
 
 abbrev pub word_of : Suspensions → ℕ
-word_of xs = ways * length xs + state_of (suspension xs (length xs))
+word_of xs = ways * length xs + way_number (suspension xs (length xs))
 
 -- what a claim comes to at a word
-abbrev pub answer : ℕ → ℕ → ClaimEnd
-answer word serial = cond (serial == 0 || nat_lt (word / ways) serial) Unknown (cond (nat_lt serial (word / ways)) (Past (word / ways)) (cond (word % ways == 0) (Won (serial - 1)) (Lost (by_of (word % ways)))))
+abbrev pub end_by_word : ℕ → ℕ → ClaimEnd
+end_by_word word serial = cond (serial == 0 || nat_lt (word / ways) serial) Unknown (cond (nat_lt serial (word / ways)) (Past (word / ways)) (cond (word % ways == 0) (Won (serial - 1)) (Lost (by_of (word % ways)))))

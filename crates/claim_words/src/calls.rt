@@ -1,9 +1,9 @@
 //! The calls on claims. To open is one `fetch_max` on the slot's word and to claim one `compare_exchange`, so both try once
 //! and nobody waits.
 ghost use Rattle.std.specs.Prelude.{◌≡◌, ◌+◌, ◌^◌, ◌<◌, ◌≤◌, ℕ, Some, length};
-ghost use Rattle.claim_words.specs.Lists.{at};
+ghost use Rattle.claim_words.specs.Lists.{nth_list};
 ghost use Rattle.claim_words.specs.Suspensions.{suspension, suspensions};
-ghost use Rattle.claim_words.specs.Words.{answer};
+ghost use Rattle.claim_words.specs.Words.{end_by_word};
 ghost use Rattle.claim_words.specs.Claims.{HasClaimed, HasOpened, met};
 ghost use Rattle.claim_words.specs.Owned.{id_of, slots_of, workers_of, opener_clerk, pass_clerk, note_clerk, IsOpenerOf, IsClaimPassOf, IsNoteOf};
 ghost use Rattle.claim_words.specs.declared.view.SeatKind.TheVariants.{Desk};
@@ -59,7 +59,7 @@ impl Claims {
         requires about { (W.number ≡ number) × (W.serial ≡ serial) × (W.way ≡ by) }
         requires serial { (0 < serial) × (serial ≤ 2 ^ 60) }
         ensures same { (seat.new.table_id ≡ seat.old.table_id) × (seat.new.me.1 ≡ seat.old.me.1) }
-        ensures claimed { HasClaimed slot number serial by seat.old.me.0 (answer result serial) seat.new.me.0 }
+        ensures claimed { HasClaimed slot number serial by seat.old.me.0 (end_by_word result serial) seat.new.me.0 }
     {
         let _ = number;
         self.table.shared.compare_exchange::<Claim<W>>(
@@ -99,7 +99,7 @@ impl Claims {
         ensures own { IsClaimPassOf self.now pass.new }
         ensures same { (pass.new.seat.table_id ≡ pass.old.seat.table_id) × (pass.new.number ≡ pass.old.number) }
         ensures claimed { HasClaimed slot pass.old.number serial by (pass_clerk pass.old) result (pass_clerk pass.new) }
-        ensures won { (place : ℕ) → result ≡ Won place → suspension (suspensions (at (pass_clerk pass.new).seen slot)) serial ≡ Some by }
+        ensures won { (place : ℕ) → result ≡ Won place → suspension (suspensions (nth_list (pass_clerk pass.new).seen slot)) serial ≡ Some by }
     {
         if serial == 0 || serial > MOST {
             self.miss_about::<Brand>(&mut pass.seat, slot, serial, by, pass.number);
@@ -112,7 +112,7 @@ impl Claims {
     /// A note of a claim that this pass has seen won by `Continued`.
     pub fn note(&self, pass: &mut ClaimPass, slot: u32, serial: u64) -> ClaimNote
         requires own { IsClaimPassOf self.now pass.old }
-        requires won { suspension (suspensions (at (pass_clerk pass.old).seen slot)) serial ≡ Some Continued }
+        requires won { suspension (suspensions (nth_list (pass_clerk pass.old).seen slot)) serial ≡ Some Continued }
         ensures own { IsClaimPassOf self.now pass.new }
         ensures same { (pass.new.seat.table_id ≡ pass.old.seat.table_id) × (pass.new.number ≡ pass.old.number) × (pass_clerk pass.new ≡ pass_clerk pass.old) }
         ensures note { IsNoteOf self.now result × (result.slot ≡ slot) × (result.serial ≡ serial) × ((note_clerk result).seen ≡ (pass_clerk pass.old).seen) }
@@ -129,7 +129,7 @@ impl Claims {
         ensures own { IsOpenerOf self.now opener.new }
         ensures same { (opener.new.seat.table_id ≡ opener.old.seat.table_id) × (opener.new.slot ≡ opener.old.slot) × (opener.new.last ≡ opener.old.last) }
         ensures met { opener_clerk opener.new ≡ met (opener_clerk opener.old) (note_clerk note) }
-        ensures known { length (suspensions (at (note_clerk note).seen opener.old.slot)) ≤ opener.old.last }
+        ensures known { length (suspensions (nth_list (note_clerk note).seen opener.old.slot)) ≤ opener.old.last }
         ensures serial { note.slot ≡ opener.old.slot → note.serial ≤ opener.old.last }
     {
         let ClaimNote {

@@ -1,6 +1,6 @@
 //! The claims for many threads, and what opens, claims and says that a claim was won.
 ghost use Rattle.std.specs.Prelude.{◌≡◌, ◌<◌, [], Some};
-ghost use Rattle.claim_words.specs.Lists.{at};
+ghost use Rattle.claim_words.specs.Lists.{nth_list};
 ghost use Rattle.claim_words.specs.Suspensions.{suspension, suspensions};
 ghost use Rattle.claim_words.specs.declared.view.SeatKind.TheVariants.{Desk, Note};
 ghost use Rattle.claim_words.specs.declared.By.TheVariants.{Continued};
@@ -58,7 +58,7 @@ pub struct ClaimNote {
     pub(crate) serial: u64,
     ghost free: { seat.me.1 ≡ [] },
     ghost kind: { seat.me.0.kind ≡ Note },
-    pub ghost won: { suspension (suspensions (at seat.me.0.seen slot)) serial ≡ Some Continued },
+    pub ghost won: { suspension (suspensions (nth_list seat.me.0.seen slot)) serial ≡ Some Continued },
 }
 
 impl Opener {

@@ -7,7 +7,7 @@ ghost use Rattle.claim_words.specs.Claims.{ClaimsClosed, AreNumbered, IsDesk, ma
 ghost use Rattle.claim_words.specs.Owned.{id_of, slots_of, workers_of, IsNewOpener, IsNewPass};
 
 use crate::claims::{ClaimPass, Claims, Opener};
-use crate::steps::{ClaimSeat, Deal, Gather, Words};
+use crate::steps::{ClaimSeat, DealClaimSeat, GatherClaimSeat, Words};
 use atomic_table::Table;
 use std::alloc::{AllocError, Global};
 use std::snapshot::Snapshot;
@@ -19,7 +19,12 @@ pub struct ClosedClaims {
 }
 
 // Makes the passes.
-fn deal_passes(words: &Words, dealer: &mut ClaimSeat, passes: &mut Vec<ClaimPass>, workers: u32)
+fn deal_claim_passes(
+    words: &Words,
+    dealer: &mut ClaimSeat,
+    passes: &mut Vec<ClaimPass>,
+    workers: u32,
+)
     requires maker { (dealer.old.table_id ≡ words.now.table_id) × (dealer.old.me ≡ (maker workers 0, [])) × (words.now.key.1 ≡ workers) × (0 < words.now.table_id.words) }
     requires room { (passes.old.items ≡ []) × (workers ≤ vec_capacity passes.old) }
     ensures maker { (dealer.new.table_id ≡ words.now.table_id) × (dealer.new.me ≡ (maker workers workers, [])) }
@@ -27,7 +32,7 @@ fn deal_passes(words: &Words, dealer: &mut ClaimSeat, passes: &mut Vec<ClaimPass
     ensures passes { (i : ℕ) (p : _) → get_elem? passes.new.items i ≡ some p → (p.seat.table_id ≡ words.now.table_id) × (p.seat.me ≡ (desk i 0, [])) × (p.number ≡ i) }
 {
     for number in 0..workers {
-        let seat = words.split_seat::<Deal>(dealer);
+        let seat = words.split_seat::<DealClaimSeat>(dealer);
         passes.push_reserved(ClaimPass { seat, number });
     }
 }
@@ -46,7 +51,7 @@ fn deal_openers(
     ensures openers { (k : ℕ) (p : _) → get_elem? openers.new.items k ≡ some p → (p.seat.table_id ≡ words.now.table_id) × (p.seat.me ≡ (desk (workers + k) k, [])) × (p.slot ≡ k) × (p.last ≡ 0) }
 {
     for slot in 0..slots {
-        let seat = words.split_seat::<Deal>(dealer);
+        let seat = words.split_seat::<DealClaimSeat>(dealer);
         openers.push_reserved(Opener {
             seat,
             slot,
@@ -64,7 +69,7 @@ fn take_passes(words: &Words, mut first: ClaimSeat, mut passes: Vec<ClaimPass>) 
 {
     while !passes.is_empty() {
         let ClaimPass { seat, number: _ } = passes.remove(0);
-        words.join_seat::<Gather>(&mut first, seat);
+        words.join_seat::<GatherClaimSeat>(&mut first, seat);
     }
     first
 }
@@ -82,7 +87,7 @@ fn take_openers(words: &Words, mut first: ClaimSeat, mut openers: Vec<Opener>) -
             slot: _,
             last: _,
         } = openers.remove(0);
-        words.join_seat::<Gather>(&mut first, seat);
+        words.join_seat::<GatherClaimSeat>(&mut first, seat);
     }
     first
 }
@@ -104,7 +109,7 @@ impl Claims {
         let mut passes = Vec::with_capacity(alloc, workers as usize)?;
         let words = vec![in alloc; 0; slots as usize]?;
         let (table, mut dealer) = Table::of_words(alloc, words.as_slice(), &(slots, workers))?;
-        deal_passes(&table.shared, &mut dealer, &mut passes, workers);
+        deal_claim_passes(&table.shared, &mut dealer, &mut passes, workers);
         deal_openers(&table.shared, &mut dealer, &mut openers, workers, slots);
         Ok((Claims { table }, openers, passes))
     }

@@ -7,13 +7,13 @@
 //! its suspensions, and each worker a [`ClaimPass`], with which it claims. A [`ClaimNote`] says by its type that a claim was
 //! won by a continuation; it may travel to another thread. [`PlainClaims`] are the same object on one thread.
 //!
-//! Both answer as `specs/Suspensions.antt` says, which knows of no word.
+//! Both return what `specs/Suspensions.antt` says, which knows of no word.
 #![tactic(auto)]
 
 mod calls;
 mod claims;
 mod ends;
-pub mod laws;
+mod laws;
 mod plain;
 mod steps;
 mod view;
@@ -21,6 +21,7 @@ mod word;
 
 pub use claims::{ClaimNote, ClaimPass, Claims, Opener};
 pub use ends::ClosedClaims;
+pub use laws::won_once;
 pub use plain::PlainClaims;
 pub use view::{Clerk, SeatKind};
 

@@ -1,6 +1,6 @@
 //! The claims on one thread: the same words, and the same definition.
 ghost use Rattle.std.specs.Prelude.{◌≡◌, ◌<◌, ℕ, List, length, replicate, [], IfOk};
-ghost use Rattle.claim_words.specs.Lists.{at};
+ghost use Rattle.claim_words.specs.Lists.{nth_list};
 ghost use Rattle.claim_words.specs.Suspensions.{claim_end};
 ghost use Rattle.claim_words.specs.Alone.{AllSuspensions, StandFor, opened_at, serial_at, claimed_at};
 
@@ -50,7 +50,7 @@ impl PlainClaims {
     pub fn claim(&mut self, k: u32, serial: u64, by: By) -> ClaimEnd
         requires slot { k < length self.old }
         ensures count { length self.new ≡ length self.old }
-        ensures claimed { (all : AllSuspensions) → StandFor self.old all → (result ≡ claim_end (at all k) serial) × StandFor self.new (claimed_at all k serial by) }
+        ensures claimed { (all : AllSuspensions) → StandFor self.old all → (result ≡ claim_end (nth_list all k) serial) × StandFor self.new (claimed_at all k serial by) }
     {
         let found = self.words[k as usize];
         let end = end_of(found, serial);

@@ -3,7 +3,7 @@ ghost use Rattle.std.specs.Prelude.{ℕ};
 ghost use Rattle.claim_words.specs.declared.By.{By as Way};
 ghost use Rattle.claim_words.specs.declared.By.TheVariants.{Continued};
 ghost use Rattle.claim_words.specs.Suspensions.{most};
-ghost use Rattle.claim_words.specs.Claims.{ClaimsKept, TellsOpened, TellsClaimed, TellsMissed, TellsNewest, maker, dealt, fresh, note_of, joined, met, spent};
+ghost use Rattle.claim_words.specs.Claims.{ClaimsKept, TellsOpened, TellsClaimed, TellsMissed, TellsNewest, maker, dealt, fresh_desk, note_of, joined_desks, met, spent_clerk};
 
 use crate::Clerk;
 use atomic_table::{Join, Play, Seat, Shared, Split, TableRule};
@@ -58,12 +58,12 @@ impl Play<(), Clerk> for Learn {
     ghost then = { TellsNewest };
 }
 
-pub(crate) struct Deal;
+pub(crate) struct DealClaimSeat;
 
-impl Split<Clerk> for Deal {
+impl Split<Clerk> for DealClaimSeat {
     ghost left = { dealt };
 
-    ghost right = { fresh };
+    ghost right = { fresh_desk };
 }
 
 pub(crate) struct Noting;
@@ -74,12 +74,12 @@ impl Split<Clerk> for Noting {
     ghost right = { note_of };
 }
 
-pub(crate) struct Gather;
+pub(crate) struct GatherClaimSeat;
 
-impl Join<Clerk> for Gather {
-    ghost both = { joined };
+impl Join<Clerk> for GatherClaimSeat {
+    ghost both = { joined_desks };
 
-    ghost spent = { spent };
+    ghost spent = { spent_clerk };
 }
 
 pub(crate) struct Meet;
@@ -87,7 +87,7 @@ pub(crate) struct Meet;
 impl Join<Clerk> for Meet {
     ghost both = { met };
 
-    ghost spent = { spent };
+    ghost spent = { spent_clerk };
 }
 
 pub(crate) type ClaimSeat = Seat<(), Clerk>;

@@ -1,3 +1,4 @@
+//! Claims call by call on one thread, and on several at once.
 ghost use Rattle.std.specs.Prelude.{◌≡◌, ◌<◌, IfOk, length};
 ghost use Rattle.claim_words.specs.Owned.{slots_of, IsOpenerOf, IsClaimPassOf};
 

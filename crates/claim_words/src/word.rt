@@ -1,7 +1,7 @@
 //! The word of a slot: `WAYS` times the latest serial, and the number of the way in which that suspension was ended, or 0
 //! while it is open. What each way is in a word stands here and nowhere else, and in `specs/Words.antt`.
 ghost use Rattle.std.specs.Prelude.{◌≡◌};
-ghost use Rattle.claim_words.specs.Words.{answer, by_of, code};
+ghost use Rattle.claim_words.specs.Words.{end_by_word, by_of, code};
 
 use crate::{By, ClaimEnd};
 
@@ -35,7 +35,7 @@ fn way_of(n: u64) -> By
 
 // What a claim of a serial comes to at this word.
 pub(crate) fn end_of(found: u64, serial: u64) -> ClaimEnd
-    ensures { result ≡ answer found serial }
+    ensures { result ≡ end_by_word found serial }
 {
     let latest = found / WAYS;
     if serial == 0 || latest < serial {

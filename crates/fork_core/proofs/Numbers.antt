@@ -5,7 +5,7 @@ use Rattle.std.specs.List.Sorted.{IsStrictlyIncreasing}
 use Rattle.std.proofs.Math.ListN.{get_or-append}
 use Rattle.std.proofs.Math.Seq.{get_or-append_seam}
 use Rattle.std.proofs.lemmas.List.Elements.{Contains-append_left, Contains-append_right, Contains-append_cases}
-use Rattle.fork_core.specs.Choices.{AreAll}
+use Rattle.fork_core.specs.Choices.{AreAllNumbers}
 
 -- the numbers below n of which P holds, in order
 pub record ListsBelow (P : ℕ → Type 0) (xs : List ℕ) (n : ℕ) : Type 0 where
@@ -90,14 +90,14 @@ lists_push P xs n l here =
               (subst (λ j. slice_index (xs ++ n ∷ []) k < j) (sym last) (subst (λ j. j < n) (sym e) (l.low k inside)))
         ]
 
-pub all_of : (P Q : ℕ → Type 0) (xs : List ℕ) (n : ℕ) → ListsBelow P xs n → ((k : ℕ) → ((k < n) × P k → Q k) × (Q k → (k < n) × P k)) → AreAll Q xs
+pub all_of : (P Q : ℕ → Type 0) (xs : List ℕ) (n : ℕ) → ListsBelow P xs n → ((k : ℕ) → ((k < n) × P k → Q k) × (Q k → (k < n) × P k)) → AreAllNumbers Q xs
 all_of P Q xs n l same =
     record {
       rising = l.rising;
       all = λ k. ((λ c. (same k).0 (l.sound k c)), λ q. let w = (same k).1 q in l.whole k w.0 w.1);
     }
 
-pub none_of : (Q : ℕ → Type 0) → ((k : ℕ) → Q k → ⊥) → AreAll Q []
+pub none_of : (Q : ℕ → Type 0) → ((k : ℕ) → Q k → ⊥) → AreAllNumbers Q []
 none_of Q not = record { rising = λ k h. absurd (omega arith); all = λ k. ((λ c. absurd (omega (arith, c.1))), λ q. absurd (not k q)) }
 
 pub push_is : (P : ℕ → Type 0) (xs ys : List ℕ) (n : ℕ) → ListsBelow P xs n → P n → ys ≡ xs ++ n ∷ [] → ListsBelow P ys (n + 1)

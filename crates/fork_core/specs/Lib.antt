@@ -1,4 +1,5 @@
-pub mod Answers
+pub mod Responses
 pub mod Preference
 pub mod Choices
-pub mod Stands
+pub mod Histories
+pub mod Decisions

@@ -1,8 +1,8 @@
-//! The response context of a forked request (RFC 3261, section 16.7): which answer of which branch goes where.
+//! The response context of a forked request (RFC 3261, section 16.7): which response of which branch goes where.
 //!
-//! A request is forwarded in rounds, each with branches of its own, twelve in all. [`Context::on_reply`] takes each answer that
-//! a branch passes up, and each final answer that is counted for a branch without one, and says what becomes of it. When all
-//! branches of the round have a final answer, [`Context::best`] is the one to send. No call takes memory.
+//! A request is forwarded in rounds, each with branches of its own, twelve in all. [`Context`] takes what the branches respond and
+//! says what becomes of it; what it has seen is a history of the definitions, and each choice is a function of that history.
+//! No call takes memory.
 #![tactic(auto)]
 
 mod context;
@@ -12,4 +12,7 @@ mod preference;
 mod tests;
 
 pub use context::{Context, Forwarding};
-pub use laws::{one_best_answer, preference_is_a_strict_order};
+pub use laws::{
+    best_of_is_the_best, challenges_are_all, forwarding_is_decided, has_failed_is_failed,
+    one_best_response, preference_is_a_strict_order, to_cancel_are_all,
+};

@@ -1,3 +1,5 @@
+//! The choices on tables of cases, and a request forwarded in three rounds.
+
 use super::*;
 use std::process::Abort;
 
@@ -15,7 +17,7 @@ fn reply(rt: &impl Abort, c: &mut Context, b: u8, code: u16, answered: bool) -> 
     c.on_reply(b, code, answered)
 }
 
-/// What joins a chosen answer.
+/// What joins a chosen response.
 fn joined(rt: &impl Abort, c: &Context, chosen: u8, wanted: &[u8]) {
     assert!(rt; usize::from(chosen) < c.branches());
     assert_eq!(rt;
@@ -23,6 +25,24 @@ fn joined(rt: &impl Abort, c: &Context, chosen: u8, wanted: &[u8]) {
         wanted,
         "that join {chosen}"
     );
+}
+
+/// How the context is used: an INVITE to three branches, of which one asks for credentials.
+#[test]
+fn a_forked_invite_ends_with_a_challenge(rt: HostRuntime) {
+    let mut c = Context::new(true);
+    for b in 0..3 {
+        assert_eq!(rt; c.add(), Some(b));
+    }
+    assert_eq!(rt; reply(&rt, &mut c, 1, 180, false), Forwarding::Now);
+    assert_eq!(rt; reply(&rt, &mut c, 0, 404, false), Forwarding::Kept);
+    assert_eq!(rt; c.to_cancel().as_slice(), [1, 2].as_slice());
+    assert_eq!(rt; reply(&rt, &mut c, 2, 503, false), Forwarding::Kept);
+    assert!(rt; !c.has_failed());
+    assert_eq!(rt; reply(&rt, &mut c, 1, 401, false), Forwarding::Kept);
+    assert!(rt; c.has_failed());
+    assert_eq!(rt; c.best(), Some(1));
+    joined(&rt, &c, 1, &[]);
 }
 
 #[test]
@@ -57,7 +77,7 @@ fn the_best_of_two_or_three(rt: HostRuntime) {
 }
 
 #[test]
-fn where_answers_to_an_invite_go(rt: HostRuntime) {
+fn where_responses_to_an_invite_go(rt: HostRuntime) {
     use Forwarding::{Kept, Nothing, Now};
     let mut c = forked(&rt, true, 4);
     for (b, code, answered, wanted) in [
@@ -86,7 +106,7 @@ fn where_answers_to_an_invite_go(rt: HostRuntime) {
 }
 
 #[test]
-fn where_answers_to_another_request_go(rt: HostRuntime) {
+fn where_responses_to_another_request_go(rt: HostRuntime) {
     use Forwarding::{Kept, Nothing, Now};
     let mut c = forked(&rt, false, 3);
     for (b, code, answered, wanted) in [
@@ -154,4 +174,38 @@ fn twelve_branches(rt: HostRuntime) {
     c.new_round();
     assert_eq!(rt; c.add(), None);
     assert_eq!(rt; c.branches(), 12);
+}
+
+#[test]
+fn a_round_that_has_failed(rt: HostRuntime) {
+    let table: [(&[(u8, u16)], bool); 9] = [
+        (&[], false),
+        (&[(0, 404)], false),
+        (&[(0, 404), (1, 180)], false),
+        (&[(0, 404), (1, 486)], true),
+        (&[(1, 699), (0, 300)], true),
+        (&[(0, 404), (1, 200)], false),
+        (&[(0, 299), (1, 603)], false),
+        (&[(0, 200), (0, 404), (1, 404)], false),
+        (&[(0, 404), (0, 200), (1, 404)], true),
+    ];
+    for (responses, wanted) in table {
+        let mut c = forked(&rt, true, 2);
+        for (b, code) in responses {
+            let _ = reply(&rt, &mut c, *b, *code, false);
+        }
+        assert_eq!(rt; c.has_failed(), wanted, "after {responses:?}");
+    }
+}
+
+#[test]
+fn only_the_last_round_fails(rt: HostRuntime) {
+    let mut c = forked(&rt, true, 2);
+    let _ = reply(&rt, &mut c, 0, 200, false);
+    c.new_round();
+    assert!(rt; c.has_failed(), "a round without a branch");
+    assert_eq!(rt; c.add(), Some(2));
+    assert!(rt; !c.has_failed(), "no final response yet");
+    let _ = reply(&rt, &mut c, 2, 503, true);
+    assert!(rt; c.has_failed(), "earlier branches take no part");
 }

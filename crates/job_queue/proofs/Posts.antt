@@ -7,7 +7,7 @@ use Rattle.crossbeam_queue.specs.Fifo.{Pushes, Pops, Forks, Merges, Learns}
 use Rattle.job_queue.specs.declared.Job.{Job}
 use Rattle.job_queue.specs.declared.hand.JobHome.{JobHome}
 use Rattle.job_queue.specs.declared.hand.JobHand.{JobHand}
-use Rattle.job_queue.specs.Jobs.{all_parts, hand, newcomer, spent, named, halved, half, both, posted, IsJobOf, AllJobs, TakesJob, weigh, total, JobsKept, Rest}
+use Rattle.job_queue.specs.Jobs.{all_parts, hand, newcomer, spent_hand, hand_of_home, halved, half, joined_hands, posted, IsJobOf, AllJobs, TakesJob, weigh, total, JobsKept, Rest}
 
 total_set : (f : JobHand → ℕ) (views : List JobHand) (port : ℕ) (v w : JobHand) → get_elem? views port ≡ some v → total f (set views port w) + f v ≡ total f views + f w
 total_set f [] port v w e = absurd (some-ne-none v (sym e))
@@ -37,8 +37,8 @@ at_least (x ∷ xs) (suc port) v e = let t = at_least xs port v e in omega arith
 
 two_least : (views : List JobHand) (i j : ℕ) (v u : JobHand) → i ≢ j → get_elem? views i ≡ some v → get_elem? views j ≡ some u → v.parts + u.parts ≤ total (λ (z : JobHand). z.parts) views
 two_least views i j v u ne a b =
-    let s = total_set (λ (z : JobHand). z.parts) views j u spent b in
-    let t = at_least (set views j spent) i v (set_else views j i spent ne ∙ a) in omega arith
+    let s = total_set (λ (z : JobHand). z.parts) views j u spent_hand b in
+    let t = at_least (set views j spent_hand) i v (set_else views j i spent_hand ne ∙ a) in omega arith
 
 total_none : (f : JobHand → ℕ) (views : List JobHand) → ((j : ℕ) (u : JobHand) → get_elem? views j ≡ some u → u.parts ≡ 0 → f u ≡ 0) → total (λ u. u.parts) views ≡ 0 → total f views ≡ 0
 total_none f [] idle e = refl
@@ -151,69 +151,69 @@ splits port v more jobs views r here =
       right = r.right;
     }
 
-pub names : (port : ℕ) (v : JobHand) (home : Option JobHome) → v ≡ newcomer → Forks JobsKept port v spent (named home v)
+pub names : (port : ℕ) (v : JobHand) (home : Option JobHome) → v ≡ newcomer → Forks JobsKept port v spent_hand (hand_of_home home v)
 names port v home is jobs views r here =
-    let right : JobHand = named home v in
-    let vs : List JobHand = set views port spent in
+    let right : JobHand = hand_of_home home v in
+    let vs : List JobHand = set views port spent_hand in
     let all : v.parts ≡ all_parts = ap (λ (z : JobHand). z.parts) is in
     let no_posts : v.posted ≡ [] = ap (λ (z : JobHand). z.posted) is in
     let no_takes : v.taken ≡ [] = ap (λ (z : JobHand). z.taken) is in
     let none : r.home ≡ None = sym (r.same port v here (omega arith)) ∙ ap (λ (z : JobHand). z.home) is in
     let empty : jobs ≡ [] = no_jobs jobs (subst (λ o. AllJobs o jobs) none r.right) in record {
       home = home;
-      parts = let s = total_set (λ (u : JobHand). u.parts) views port v spent here in let t = total_snoc (λ (u : JobHand). u.parts) vs right in let p = r.parts in omega arith;
+      parts = let s = total_set (λ (u : JobHand). u.parts) views port v spent_hand here in let t = total_snoc (λ (u : JobHand). u.parts) vs right in let p = r.parts in omega arith;
       balanced = λ h.
-          let s = total_set (λ (u : JobHand). weigh h u.posted) views port v spent here in
+          let s = total_set (λ (u : JobHand). weigh h u.posted) views port v spent_hand here in
           let s' = total_snoc (λ (u : JobHand). weigh h u.posted) vs right in
-          let t = total_set (λ (u : JobHand). weigh h u.taken) views port v spent here in
+          let t = total_set (λ (u : JobHand). weigh h u.taken) views port v spent_hand here in
           let t' = total_snoc (λ (u : JobHand). weigh h u.taken) vs right in
           let b = r.balanced h in omega arith;
       idle = λ j u at p. ⊎_elim
           (λ (e : get_elem? vs j ≡ some u). ⊎_elim
-          (λ (t : (j ≡ port) × (spent ≡ u)). subst (λ (z : JobHand). (z.posted ≡ []) × (z.taken ≡ [])) t.1 (refl, refl))
+          (λ (t : (j ≡ port) × (spent_hand ≡ u)). subst (λ (z : JobHand). (z.posted ≡ []) × (z.taken ≡ [])) t.1 (refl, refl))
           (λ (t : (j ≢ port) × (get_elem? views j ≡ some u)). r.idle j u t.1 p)
-          (at_set views port j spent u e))
+          (at_set views port j spent_hand u e))
           (λ (t : right ≡ u). absurd (let q = ap (λ (z : JobHand). z.parts) t in omega arith))
           (at_snoc vs right u j at);
       same = λ j u at p. ⊎_elim
           (λ (e : get_elem? vs j ≡ some u). ⊎_elim
-          (λ (t : (j ≡ port) × (spent ≡ u)). absurd (let q = ap (λ (z : JobHand). z.parts) t.1 in omega arith))
+          (λ (t : (j ≡ port) × (spent_hand ≡ u)). absurd (let q = ap (λ (z : JobHand). z.parts) t.1 in omega arith))
           (λ (t : (j ≢ port) × (get_elem? views j ≡ some u)). absurd (let q = two_least views port j v u (λ x. t.0 (sym x)) here t.1 in let l = r.parts in omega arith))
-          (at_set views port j spent u e))
+          (at_set views port j spent_hand u e))
           (λ (t : right ≡ u). sym (ap (λ (z : JobHand). z.home) t))
           (at_snoc vs right u j at);
       right = subst (λ (l : List Job). AllJobs home l) (sym empty) tt;
     }
 
-pub joins : (port : ℕ) (v : JobHand) (other : ℕ) (u : JobHand) → 0 < v.parts → 0 < u.parts → Merges JobsKept port v other u (both v u) spent
+pub joins : (port : ℕ) (v : JobHand) (other : ℕ) (u : JobHand) → 0 < v.parts → 0 < u.parts → Merges JobsKept port v other u (joined_hands v u) spent_hand
 joins port v other u some_part some_other jobs views r here apart there =
-    let w : JobHand = both v u in
+    let w : JobHand = joined_hands v u in
     let vs : List JobHand = set views port w in
     let was : get_elem? views other ≡ some u = sym (set_else views port other w apart) ∙ there in record {
       home = r.home;
-      parts = let s = total_set (λ (z : JobHand). z.parts) views port v w here in let t = total_set (λ (z : JobHand). z.parts) vs other u spent there in let p = r.parts in omega arith;
+      parts = let s = total_set (λ (z : JobHand). z.parts) views port v w here in let t = total_set (λ (z : JobHand). z.parts) vs other u spent_hand there in let p = r.parts in omega arith;
       balanced = λ h.
           let s = total_set (λ (z : JobHand). weigh h z.posted) views port v w here in
-          let s' = total_set (λ (z : JobHand). weigh h z.posted) vs other u spent there in
+          let s' = total_set (λ (z : JobHand). weigh h z.posted) vs other u spent_hand there in
           let t = total_set (λ (z : JobHand). weigh h z.taken) views port v w here in
-          let t' = total_set (λ (z : JobHand). weigh h z.taken) vs other u spent there in
+          let t' = total_set (λ (z : JobHand). weigh h z.taken) vs other u spent_hand there in
           let p = weigh-append h v.posted u.posted in
           let q = weigh-append h v.taken u.taken in
           let b = r.balanced h in omega arith;
       idle = λ j z at p. ⊎_elim
-          (λ (t : (j ≡ other) × (spent ≡ z)). subst (λ (y : JobHand). (y.posted ≡ []) × (y.taken ≡ [])) t.1 (refl, refl))
+          (λ (t : (j ≡ other) × (spent_hand ≡ z)). subst (λ (y : JobHand). (y.posted ≡ []) × (y.taken ≡ [])) t.1 (refl, refl))
           (λ (t : (j ≢ other) × (get_elem? vs j ≡ some z)). ⊎_elim
           (λ (q : (j ≡ port) × (w ≡ z)). absurd (let e = ap (λ (y : JobHand). y.parts) q.1 in omega arith))
           (λ (q : (j ≢ port) × (get_elem? views j ≡ some z)). r.idle j z q.1 p)
           (at_set views port j w z t.1))
-          (at_set vs other j spent z at);
+          (at_set vs other j spent_hand z at);
       same = λ j z at p. ⊎_elim
-          (λ (t : (j ≡ other) × (spent ≡ z)). absurd (let e = ap (λ (y : JobHand). y.parts) t.1 in omega arith))
+          (λ (t : (j ≡ other) × (spent_hand ≡ z)). absurd (let e = ap (λ (y : JobHand). y.parts) t.1 in omega arith))
           (λ (t : (j ≢ other) × (get_elem? vs j ≡ some z)). ⊎_elim
           (λ (q : (j ≡ port) × (w ≡ z)). sym (ap (λ (y : JobHand). y.home) q.1) ∙ r.same port v here some_part)
           (λ (q : (j ≢ port) × (get_elem? views j ≡ some z)). r.same j z q.1 p)
           (at_set views port j w z t.1))
-          (at_set vs other j spent z at);
+          (at_set vs other j spent_hand z at);
       right = r.right;
     }
 

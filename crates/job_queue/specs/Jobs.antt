@@ -23,12 +23,12 @@ hand home parts posted taken = record { home = home; parts = parts; posted = pos
 abbrev pub newcomer : JobHand
 newcomer = hand None all_parts [] []
 
-abbrev pub spent : JobHand
-spent = hand None 0 [] []
+abbrev pub spent_hand : JobHand
+spent_hand = hand None 0 [] []
 
 -- the only pass, once it was told of which claims the jobs are
-abbrev pub named : Option JobHome → JobHand → JobHand
-named home v = record v { home = home }
+abbrev pub hand_of_home : Option JobHome → JobHand → JobHand
+hand_of_home home v = record v { home = home }
 
 -- a pass that gave one part to a new one
 abbrev pub halved : JobHand → JobHand
@@ -38,8 +38,8 @@ abbrev pub half : JobHand → JobHand
 half v = hand v.home 1 [] []
 
 -- a pass that took another in
-abbrev pub both : JobHand → JobHand → JobHand
-both v w = hand v.home (v.parts + w.parts) (v.posted ++ w.posted) (v.taken ++ w.taken)
+abbrev pub joined_hands : JobHand → JobHand → JobHand
+joined_hands v w = hand v.home (v.parts + w.parts) (v.posted ++ w.posted) (v.taken ++ w.taken)
 
 abbrev pub posted : JobHand → Job → JobHand
 posted v x = record v { posted = v.posted ++ x ∷ [] }

@@ -4,7 +4,7 @@ ghost use Rattle.crossbeam_queue.specs.Fifo.{Held};
 ghost use Rattle.crossbeam_queue.specs.Passes.{view, IsPassOf, IsSamePass};
 ghost use Rattle.job_queue.specs.declared.Job.{Job as Order};
 ghost use Rattle.job_queue.specs.declared.hand.JobHome.{JobHome as House};
-ghost use Rattle.job_queue.specs.Jobs.{IsJobOf, Rest, TakesJob, all_parts, home_of, hand, newcomer, named, halved, half, both, spent, posted, weigh};
+ghost use Rattle.job_queue.specs.Jobs.{IsJobOf, Rest, TakesJob, all_parts, home_of, hand, newcomer, hand_of_home, halved, half, joined_hands, spent_hand, posted, weigh};
 ghost use Rattle.job_queue.specs.Owned.{IsJobPassOf, home_in};
 
 use crate::jobs::{JobPass, Jobs, Queue};
@@ -30,9 +30,9 @@ impl Homes for Brand {
 pub(crate) struct Naming<W>(PhantomData<W>);
 
 impl<W: Homes> Split<JobHand> for Naming<W> {
-    ghost left = { λ _. spent };
+    ghost left = { λ _. spent_hand };
 
-    ghost right = { named W.home };
+    ghost right = { hand_of_home W.home };
 }
 
 pub(crate) struct Halves;
@@ -44,9 +44,9 @@ impl Split<JobHand> for Halves {
 }
 
 impl Join<JobHand> for Halves {
-    ghost both = { both };
+    ghost both = { joined_hands };
 
-    ghost spent = { spent };
+    ghost spent = { spent_hand };
 }
 
 pub(crate) struct Posts;
@@ -105,7 +105,7 @@ impl Jobs {
         requires own { IsJobPassOf self.now pass.old }
         requires other { IsJobPassOf self.now other }
         ensures own { IsJobPassOf self.now pass.new × IsSamePass pass.old pass.new }
-        ensures both { view pass.new ≡ both (view pass.old) (view other) }
+        ensures both { view pass.new ≡ joined_hands (view pass.old) (view other) }
     {
         self.queue.absorb::<Halves>(pass, other);
     }

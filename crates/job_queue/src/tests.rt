@@ -1,3 +1,4 @@
+//! A queue that is full, and one that two threads empty.
 ghost use Rattle.std.specs.Prelude.{◌≡◌, ◌<◌, ℕ};
 ghost use Rattle.job_queue.specs.declared.Job.TheVariants.{Cancel};
 ghost use Rattle.job_queue.specs.Jobs.{IsJobOf};

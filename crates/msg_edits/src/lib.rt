@@ -13,7 +13,7 @@
 
 mod bytewise;
 mod changes;
-pub mod laws;
+mod laws;
 mod list;
 mod parts;
 mod sweep;
@@ -21,6 +21,11 @@ mod sweep;
 mod tests;
 mod writing;
 
+pub use laws::{
+    a_cut_takes_its_bytes_away, a_span_is_replaced, a_text_is_its_parts,
+    an_edit_elsewhere_changes_nothing, an_insert_stands_at_its_place, no_edits_leave_the_text,
+    the_lengths_add_up,
+};
 pub use list::{EditFault, Edits, LIMIT};
 pub use parts::{Change, Edit};
 pub use sip_words::Span;

@@ -6,7 +6,7 @@ use Rattle.histories.proofs.Lists.{runs_more}
 use Rattle.outside_ports.specs.Calls.{next_fails, one_made}
 use Rattle.outside_ports.specs.Port.{PortPlan, send_call}
 use Rattle.outside_ports.specs.MemPort.{PortState, datagram, next_moment, recorded, with_call, recv_counted, send_counted, unrecorded_recv, unrecorded_send, ReceivesBy, SendsBy, IsInOrder}
-use Rattle.outside_ports.specs.Plan.{PlanPlace, PlanStep, AreCallsOf, place_of, received, IsOnPlan}
+use Rattle.outside_ports.specs.Plan.{PlanPlace, PlanStep, AreCallsOf, plan_place, received, IsOnPlan}
 use Rattle.outside_ports.specs.declared.port.Addr.{Addr}
 use Rattle.outside_ports.specs.declared.port.PortCall.{PortCall}
 use Rattle.outside_ports.specs.declared.port.PortCall.TheVariants as call
@@ -24,13 +24,13 @@ calls_more plan (Some cs) old new c step told = runs_more (PlanStep plan.end) _ 
 
 -- a port that took a step of its plan and recorded it
 stays : (old new : PortState) (c : PortCall) → IsOnPlan old → new.plan ≡ old.plan → new.end ≡ old.end → new.calls ≡ option_map (λ (cs : List PortCall). cs ++ c ∷ []) old.calls
-    → PlanStep old.end (place_of old) c (place_of new) → IsOnPlan new
+    → PlanStep old.end (plan_place old) c (plan_place new) → IsOnPlan new
 stays old new c on plan ended calls step = record {
   in_order = subst (λ (p : PortPlan). IsInOrder p.arrivals p.end) (sym plan) on.in_order;
   end = ended ∙ (on.end ∙ ap (λ (p : PortPlan). p.end) (sym plan));
-  calls = subst (λ (p : PortPlan). IfSome new.calls (λ cs. AreCallsOf p cs (place_of new))) (sym plan)
-      (subst (λ o. IfSome o (λ cs. AreCallsOf old.plan cs (place_of new))) (sym calls)
-      (calls_more old.plan old.calls (place_of old) (place_of new) c (subst (λ n. PlanStep n (place_of old) c (place_of new)) on.end step) on.calls));
+  calls = subst (λ (p : PortPlan). IfSome new.calls (λ cs. AreCallsOf p cs (plan_place new))) (sym plan)
+      (subst (λ o. IfSome o (λ cs. AreCallsOf old.plan cs (plan_place new))) (sym calls)
+      (calls_more old.plan old.calls (plan_place old) (plan_place new) c (subst (λ n. PlanStep n (plan_place old) c (plan_place new)) on.end step) on.calls));
 }
 
 -- a port that tells no calls any more
@@ -38,7 +38,7 @@ lost : (old new : PortState) → IsOnPlan old → new.plan ≡ old.plan → new.
 lost old new on plan ended none = record {
   in_order = subst (λ (p : PortPlan). IsInOrder p.arrivals p.end) (sym plan) on.in_order;
   end = ended ∙ (on.end ∙ ap (λ (p : PortPlan). p.end) (sym plan));
-  calls = subst (λ o. IfSome o (λ cs. AreCallsOf new.plan cs (place_of new))) (sym none) tt;
+  calls = subst (λ o. IfSome o (λ cs. AreCallsOf new.plan cs (plan_place new))) (sym none) tt;
 }
 
 pub receives_on_plan : (old new : PortState) (until : ℕ) (buffer filled : List ℕ) (answer : Recv) → IsOnPlan old → ReceivesBy old until buffer answer filled new → IsOnPlan new

@@ -7,7 +7,7 @@ use Rattle.histories.specs.Lists.{Grows}
 use Rattle.histories.proofs.Lists.{grows_flat, runs_parts}
 use Rattle.outside_ports.specs.Port.{PortPlan, got_in, got_by}
 use Rattle.outside_ports.specs.MemPort.{datagram, datagrams, next_moment, IsInOrder}
-use Rattle.outside_ports.specs.Plan.{PlanPlace, PlanStep, AreCallsOf, start_of, received, ClocksRise}
+use Rattle.outside_ports.specs.Plan.{PlanPlace, PlanStep, AreCallsOf, plan_start, received, ClocksRise}
 use Rattle.outside_ports.specs.declared.port.Arrival.{Arrival}
 use Rattle.outside_ports.specs.declared.port.Datagram.{Datagram}
 use Rattle.outside_ports.specs.declared.port.PortCall.{PortCall}
@@ -36,9 +36,9 @@ got_and_left end s u (call.Recv until (Got d) clock ∷ calls) r =
 pub all_got : (plan : PortPlan) (before after : List PortCall) (until clock : ℕ) (place : PlanPlace) → AreCallsOf plan (before ++ call.Recv until Closed clock ∷ after) place
     → (got_in before ≡ datagrams plan.arrivals) × (clock ≡ plan.end)
 all_got plan before after until clock place r =
-    let p = runs_parts (PlanStep plan.end) (start_of plan) place before (call.Recv until Closed clock ∷ after) r in
+    let p = runs_parts (PlanStep plan.end) (plan_start plan) place before (call.Recv until Closed clock ∷ after) r in
     let s = p.2.1 in
-    (sym (append-nil (got_in before)) ∙ (ap (λ (l : List Arrival). got_in before ++ datagrams l) (sym s.1) ∙ got_and_left plan.end (start_of plan) p.0 before p.1), s.3)
+    (sym (append-nil (got_in before)) ∙ (ap (λ (l : List Arrival). got_in before ++ datagrams l) (sym s.1) ∙ got_and_left plan.end (plan_start plan) p.0 before p.1), s.3)
 
 -- the arrivals that are left are in order, and the clock isn't past the first of them
 record IsOnTime (end : ℕ) (p : PlanPlace) : Type 0 where
@@ -91,4 +91,4 @@ clocks_rise end s u (call.Recv until (Got d) clock ∷ calls) on r =
     )
 
 pub plan_clocks : (plan : PortPlan) (calls : List PortCall) (place : PlanPlace) → IsInOrder plan.arrivals plan.end → AreCallsOf plan calls place → ClocksRise 0 calls
-plan_clocks plan calls place o r = clocks_rise plan.end (start_of plan) place calls (record { in_order = o; before_next = omega arith }) r
+plan_clocks plan calls place o r = clocks_rise plan.end (plan_start plan) place calls (record { in_order = o; before_next = omega arith }) r

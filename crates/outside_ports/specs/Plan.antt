@@ -17,8 +17,8 @@ pub record PlanPlace : Type 0 where
   pub recvs : CallState
   pub sends : CallState
 
-abbrev pub start_of : PortPlan → PlanPlace
-start_of plan = record { left = plan.arrivals; clock = 0; recvs = no_calls plan.fail_recv; sends = no_calls plan.fail_send }
+abbrev pub plan_start : PortPlan → PlanPlace
+plan_start plan = record { left = plan.arrivals; clock = 0; recvs = no_calls plan.fail_recv; sends = no_calls plan.fail_send }
 
 -- after a call of `recv` the clock stands at this moment, and these arrivals are left
 abbrev pub received : PlanPlace → List Arrival → ℕ → PlanPlace
@@ -41,16 +41,16 @@ PlanStep end old (call.Recv until Closed clock) new =
 
 -- the calls are a run of the plan, up to this place
 abbrev pub AreCallsOf : PortPlan → List PortCall → PlanPlace → Type 0
-AreCallsOf plan calls place = Runs (PlanStep plan.end) (start_of plan) calls place
+AreCallsOf plan calls place = Runs (PlanStep plan.end) (plan_start plan) calls place
 
-abbrev pub place_of : PortState → PlanPlace
-place_of port = record { left = port.left; clock = port.clock; recvs = port.recvs; sends = port.sends }
+abbrev pub plan_place : PortState → PlanPlace
+plan_place port = record { left = port.left; clock = port.clock; recvs = port.recvs; sends = port.sends }
 
 -- the port makes a run of its plan, whose arrivals are in order
 pub record IsOnPlan (port : PortState) : Type 0 where
   pub in_order : IsInOrder port.plan.arrivals port.plan.end
   pub end : port.end ≡ port.plan.end
-  pub calls : IfSome port.calls (λ calls. AreCallsOf port.plan calls (place_of port))
+  pub calls : IfSome port.calls (λ calls. AreCallsOf port.plan calls (plan_place port))
 
 -- no clock of these calls is lower than this one, or than one before it
 abbrev pub ClocksRise : ℕ → List PortCall → Type 0

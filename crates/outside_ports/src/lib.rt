@@ -11,7 +11,7 @@ mod calls;
 mod console;
 mod feed;
 mod files;
-pub mod laws;
+mod laws;
 mod mem_console;
 mod mem_files;
 mod mem_port;
@@ -22,6 +22,10 @@ mod tests;
 pub use bytes::Bytes;
 pub use console::{Console, PrintEnd};
 pub use files::{FileFault, Files};
+pub use laws::{
+    a_call_of_recv_grows_the_lists, a_call_of_send_grows_the_lists, arrivals_are_got_in_order,
+    closed_comes_when_all_were_got, each_call_has_one_end, the_clock_never_falls,
+};
 pub use mem_console::MemConsole;
 pub use mem_files::MemFiles;
 pub use mem_port::MemPort;

@@ -1,4 +1,4 @@
-//! The objects in memory, call by call, with answers worked out by hand.
+//! The objects in memory, call by call, with what they return worked out by hand.
 ghost use Rattle.std.specs.Prelude.{◌≡◌, ◌≤◌, length, IfOk};
 
 use crate::{
@@ -31,19 +31,19 @@ fn arrival(alloc: Global, at: u64, from: Addr, text: &[u8]) -> Result<Arrival, A
     Ok(Arrival { at, from, bytes })
 }
 
-/// A call of `recv`: the moment asked for, the answer, and the clock and the front of the buffer after it.
+/// A call of `recv`: the moment asked for, what it returns, and the clock and the front of the buffer after it.
 type RecvCase = (u64, Recv, u64, &'static [u8]);
 
 fn got(len: usize, from: Addr) -> Recv {
     Recv::Got { len, from }
 }
 
-/// The port answers as the cases say, one after another, and each call was recorded.
+/// The port returns what the cases say, one after another, and each call was recorded.
 fn receives(rt: &impl Abort, mut port: MemPort, cases: &[RecvCase]) {
     let mut buf = [b'.'; ROOM];
-    for (until, answer, clock, front) in cases {
+    for (until, wanted, clock, front) in cases {
         let got = port.recv(&mut buf, *until);
-        assert_eq!(rt; got, *answer, "up to {until}");
+        assert_eq!(rt; got, *wanted, "up to {until}");
         assert_eq!(rt; port.now(), *clock, "up to {until}");
         assert!(rt; buf.starts_with(front), "up to {until}");
         assert!(rt; !port.out_of_memory());
@@ -120,8 +120,8 @@ fn the_longest_datagram_is_got(rt: HostRuntime) -> Result<(), Fail> {
     let arrivals = Vec::from_array(alloc, [arrival(alloc, 0, ALICE, &text)?])?;
     let mut port = MemPort::new(arrivals, 0, Vec::new(alloc), Vec::new(alloc));
     let mut buf = [b'.'; ROOM];
-    let answer = port.recv(&mut buf, 0);
-    assert_eq!(rt; answer, got(65_507, ALICE));
+    let got_end = port.recv(&mut buf, 0);
+    assert_eq!(rt; got_end, got(65_507, ALICE));
     assert!(rt; buf.starts_with(&text));
     assert_eq!(rt; buf[65_507], b'.');
     Ok(())
@@ -144,9 +144,9 @@ fn listed_calls_of_send_fail(rt: HostRuntime) -> Result<(), Fail> {
         (BOB, b"two", SendEnd::Sent),
         (ALICE, b"", SendEnd::Sent),
     ];
-    for (at, (to, text, answer)) in cases.iter().enumerate() {
+    for (at, (to, text, wanted)) in cases.iter().enumerate() {
         let end = port.send(*to, text);
-        assert_eq!(rt; end, *answer, "call {at}");
+        assert_eq!(rt; end, *wanted, "call {at}");
         assert!(rt; !port.out_of_memory(), "call {at}");
     }
     assert_eq!(rt; port.now(), 0);
@@ -155,7 +155,7 @@ fn listed_calls_of_send_fail(rt: HostRuntime) -> Result<(), Fail> {
     Ok(())
 }
 
-/// A call of `read`: the name, the limit, and the answer.
+/// A call of `read`: the name, the limit, and what it returns.
 type ReadCase = (&'static str, usize, Result<&'static [u8], FileFault>);
 
 fn file(alloc: Global, name: &str, text: &[u8]) -> Result<(String, Vec<u8>), AllocError> {
@@ -205,12 +205,12 @@ fn files_are_read_whole(rt: HostRuntime) -> Result<(), Fail> {
     Ok(())
 }
 
-/// A call of `print`: the bytes, the answer, and all that was printed by then.
+/// A call of `print`: the bytes, what it returns, and all that was printed by then.
 type PrintCase = (&'static [u8], PrintEnd, &'static [u8]);
 
-fn prints(rt: &impl Abort, console: &mut MemConsole, (text, answer, printed): PrintCase) {
+fn prints(rt: &impl Abort, console: &mut MemConsole, (text, wanted, printed): PrintCase) {
     let end = console.print(text);
-    assert_eq!(rt; end, answer, "{text:?}");
+    assert_eq!(rt; end, wanted, "{text:?}");
     assert!(rt; console.printed() == printed, "{text:?}");
 }
 

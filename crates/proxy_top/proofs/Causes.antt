@@ -9,7 +9,7 @@ use Rattle.proxy_top.specs.declared.top.Ending.TheVariants as outcome
 use Rattle.proxy_top.specs.Commands.{check_words, sim_words}
 use Rattle.proxy_top.specs.Script.{IsScript}
 use Rattle.proxy_top.specs.Scenario.{IsScenario, IsFirstWrong}
-use Rattle.proxy_top.specs.Endings.{ReadsScript, IsEnding, IsRun, IsRefused, IsRefusedBySim, IsWrongLine, IsEnd, IsCalm, Gives, status_of, Tells, IsReady, IsInNoForm, IsInWrongLine, place}
+use Rattle.proxy_top.specs.Endings.{ReadsScript, IsEnding, IsRun, IsRefusedByCommand, IsRefusedBySim, IsWrongLine, IsEnd, IsCalm, Gives, status_of, Tells, IsReady, IsMalformedScript, IsMalformedScenario, place}
 use Rattle.proxy_top.proofs.Once.{scenario_not_wrong}
 
 -- no words are both commands
@@ -38,7 +38,7 @@ not_longer folder name name' limit text t same h =
 
 -- a text in no form is refused with kind 3 at 0..0
 pub no_script : (folder : Option Folder) (script scenario text : List ℕ) → Holds folder script text → ((answer : AnswerAll) → IsScript text answer → ⊥)
-    → IsRefused (sim_words script scenario) folder 3 (place 0 0)
+    → IsRefusedByCommand (sim_words script scenario) folder 3 (place 0 0)
 no_script folder script scenario text held none =
     inr (record { script = script; scenario = scenario; words_are = refl; kind_is = refl; at_is = refl; refused = inl (text, held, none) })
 
@@ -53,7 +53,7 @@ not_refused_by_sim words folder script scenario text answer kind at w t accepted
     ]
 
 not_refused : (words : List (List ℕ)) (folder : Option Folder) (script scenario text : List ℕ) (answer : AnswerAll) (kind : ℕ) (at : Place)
-    → words ≡ sim_words script scenario → Tells folder script 1048576 text → IsScript text answer → IsRefused words folder kind at → ⊥
+    → words ≡ sim_words script scenario → Tells folder script 1048576 text → IsScript text answer → IsRefusedByCommand words folder kind at → ⊥
 not_refused words folder script scenario text answer kind at w t accepted (inl r) = two_commands words r.file script scenario r.words_are w
 not_refused words folder script scenario text answer kind at w t accepted (inr r) =
     not_refused_by_sim words folder script scenario text answer kind at w t accepted r
@@ -75,7 +75,7 @@ not_wrong words folder r line w =
     ]
 
 -- a scenario with a wrong line isn't read
-not_done : (words : List (List ℕ)) (folder : Option Folder) (line : ℕ) (r : IsInWrongLine words folder line) (printed : List ℕ)
+not_done : (words : List (List ℕ)) (folder : Option Folder) (line : ℕ) (r : IsMalformedScenario words folder line) (printed : List ℕ)
     → IsRun words folder printed → ⊥
 not_done words folder line r printed d =
     let same = same_words r.script r.scenario d.script d.scenario (sym r.words_are ∙ d.words_are) in
@@ -92,7 +92,7 @@ ready_in words folder f g status (outcome.Refused kind at) r still is ends =
 ready_in words folder f g status (outcome.WrongLine other) r still is ends = absurd (not_wrong words folder r other ends)
 ready_in words folder f g status (outcome.Unread name) r still is ends = absurd (still name.now ends.rose)
 
-no_form_in : (words : List (List ℕ)) (folder : Option Folder) (f g : List ℕ → ℕ) (status : ℕ) (ending : Ending) → IsInNoForm words folder → IsCalm f g
+no_form_in : (words : List (List ℕ)) (folder : Option Folder) (f g : List ℕ → ℕ) (status : ℕ) (ending : Ending) → IsMalformedScript words folder → IsCalm f g
     → status ≡ status_of ending → IsEnding words folder f g ending → status ≡ 2
 no_form_in words folder f g status outcome.Accepted r still is ends = absurd (two_commands words ends.file r.script r.scenario ends.words_are r.words_are)
 no_form_in words folder f g status (outcome.Ran trace) r still is ends =
@@ -105,7 +105,7 @@ no_form_in words folder f g status (outcome.WrongLine other) r still is ends =
     absurd (not_read folder r.script ends.script r.text ends.answer r.held same.0 r.refused ends.accepted)
 no_form_in words folder f g status (outcome.Unread name) r still is ends = absurd (still name.now ends.rose)
 
-wrong_in : (words : List (List ℕ)) (folder : Option Folder) (f g : List ℕ → ℕ) (status line : ℕ) (ending : Ending) → IsInWrongLine words folder line → IsCalm f g
+wrong_in : (words : List (List ℕ)) (folder : Option Folder) (f g : List ℕ → ℕ) (status line : ℕ) (ending : Ending) → IsMalformedScenario words folder line → IsCalm f g
     → status ≡ status_of ending → IsEnding words folder f g ending → status ≡ 3
 wrong_in words folder f g status line outcome.Accepted r still is ends = absurd (two_commands words ends.file r.script r.scenario ends.words_are r.words_are)
 wrong_in words folder f g status line (outcome.Ran trace) r still is ends = absurd (not_done words folder line r trace.items ends)
@@ -122,13 +122,13 @@ ready words folder f g old new c d s t status (inr (inl h)) r still calm = absur
 ready words folder f g old new c d s t status (inr (inr h)) r still calm = inr h.is
 
 pub no_form : (words : List (List ℕ)) (folder : Option Folder) (f g : List ℕ → ℕ) (old new : Option (List ℕ)) (c d s t status : ℕ)
-    → IsEnd words folder f g old new c d s t status → IsInNoForm words folder → Gives 2 f g c d status
+    → IsEnd words folder f g old new c d s t status → IsMalformedScript words folder → Gives 2 f g c d status
 no_form words folder f g old new c d s t status (inl h) r still calm = inl (no_form_in words folder f g status h.ending r still h.status_is h.ends)
 no_form words folder f g old new c d s t status (inr (inl h)) r still calm = absurd (calm h.rose)
 no_form words folder f g old new c d s t status (inr (inr h)) r still calm = inr h.is
 
 pub wrong_line_only : (words : List (List ℕ)) (folder : Option Folder) (f g : List ℕ → ℕ) (old new : Option (List ℕ)) (c d s t status : ℕ)
-    → IsEnd words folder f g old new c d s t status → (line : ℕ) → IsInWrongLine words folder line → Gives 3 f g c d status
+    → IsEnd words folder f g old new c d s t status → (line : ℕ) → IsMalformedScenario words folder line → Gives 3 f g c d status
 wrong_line_only words folder f g old new c d s t status (inl h) line r still calm =
     inl (wrong_in words folder f g status line h.ending r still h.status_is h.ends)
 wrong_line_only words folder f g old new c d s t status (inr (inl h)) line r still calm = absurd (calm h.rose)

@@ -9,10 +9,12 @@ use Rattle.proxy_top.specs.declared.top.Ending.{Ending}
 use Rattle.proxy_top.specs.declared.top.Ending.TheVariants as outcome
 use Rattle.proxy_top.specs.Accept.{AcceptsText, RefusesText}
 use Rattle.proxy_top.specs.Commands.{check_words}
-use Rattle.proxy_top.specs.Endings.{IsEnding, IsAccepted, IsRefused, IsEnd, IsCalm, Gives, status_of, IsToAccept, IsToRefuse, IsTooLong, PrintsRefusal, place, refused_line}
+use Rattle.proxy_top.specs.Endings.{IsEnding, IsAcceptedByCheck, IsRefusedByCommand, IsEnd, IsCalm, Gives, status_of, IsToAccept, IsToRefuse, IsTooLong, PrintsRefusal, place, refused_line}
 use Rattle.proxy_top.proofs.Causes.{two_commands, held_once, not_longer}
 use Rattle.proxy_top.proofs.Statuses.{refused}
 use Rattle.proxy_top.proofs.Texts.{Agree, accepted_is_short}
+use Rattle.cfg_tree.specs.declared.refusal_kind.RefusalKind.TheVariants.{TooLarge}
+use Rattle.cfg_tree.specs.RefusalKinds.{refusal_number}
 
 -- no text is both accepted and refused
 abbrev pub NeverBoth : Type 0
@@ -22,7 +24,7 @@ same_file : (file file' : List ℕ) → check_words file ≡ check_words file' �
 same_file file file' e = cc
 
 -- a script that is accepted isn't refused
-not_refused : NeverBoth → (words : List (List ℕ)) (folder : Option Folder) (r : IsToAccept words folder) (kind : ℕ) (at : Place) → IsRefused words folder kind at → ⊥
+not_refused : NeverBoth → (words : List (List ℕ)) (folder : Option Folder) (r : IsToAccept words folder) (kind : ℕ) (at : Place) → IsRefusedByCommand words folder kind at → ⊥
 not_refused never words folder r kind at (inl h) =
     let same = same_file r.file h.file (sym r.words_are ∙ h.words_are) in
     elim h.refused [
@@ -33,7 +35,7 @@ not_refused never words folder r kind at (inl h) =
 not_refused never words folder r kind at (inr h) = two_commands words r.file h.script h.scenario r.words_are h.words_are
 
 -- a script that is refused isn't accepted
-not_accepted : NeverBoth → (words : List (List ℕ)) (folder : Option Folder) (kind : ℕ) (at : Place) (r : IsToRefuse words folder kind at) → IsAccepted words folder → ⊥
+not_accepted : NeverBoth → (words : List (List ℕ)) (folder : Option Folder) (kind : ℕ) (at : Place) (r : IsToRefuse words folder kind at) → IsAcceptedByCheck words folder → ⊥
 not_accepted never words folder kind at r h =
     let same = same_file r.file h.file (sym r.words_are ∙ h.words_are) in
     let text = held_once folder r.file h.file 1048576 r.text h.text r.held same h.held in
@@ -47,7 +49,7 @@ long_once folder name name' files text text' told held same h =
     let both : Some text' ≡ Some text = sym there ∙ ap files same ∙ held in cc
 
 -- a script that is too long isn't accepted
-long_not_accepted : (words : List (List ℕ)) (folder : Option Folder) (r : IsTooLong words folder) → IsAccepted words folder → ⊥
+long_not_accepted : (words : List (List ℕ)) (folder : Option Folder) (r : IsTooLong words folder) → IsAcceptedByCheck words folder → ⊥
 long_not_accepted words folder r h =
     let same = same_file r.file h.file (sym r.words_are ∙ h.words_are) in
     let text = long_once folder r.file h.file r.files r.text h.text r.told r.held same h.held in
@@ -109,7 +111,7 @@ abbrev pub OneWay : Type 0
 OneWay = (text : List ℕ) (kind : ℕ) (at : Place) (other : ℕ) (there : Place) → RefusesText text kind at → RefusesText text other there → Agree kind at other there
 
 line_in : OneWay → (words : List (List ℕ)) (folder : Option Folder) (old new : Option (List ℕ)) (kind : ℕ) (at : Place) (k : ℕ) (p : Place)
-    → IsToRefuse words folder kind at → IsRefused words folder k p → Grows old new (refused_line k p) → PrintsRefusal kind at old new
+    → IsToRefuse words folder kind at → IsRefusedByCommand words folder k p → Grows old new (refused_line k p) → PrintsRefusal kind at old new
 line_in one words folder old new kind at k p r (inl h) grows =
     let same = same_file r.file h.file (sym r.words_are ∙ h.words_are) in
     elim h.refused [
@@ -129,7 +131,7 @@ line one words folder f g old new c d s t status h kind at r e =
     line_in one words folder old new kind at found.0 found.1 r found.2 found.3
 
 long_line_in : (words : List (List ℕ)) (folder : Option Folder) (old new : Option (List ℕ)) (k : ℕ) (p : Place)
-    → IsTooLong words folder → IsRefused words folder k p → Grows old new (refused_line k p) → Grows old new (refused_line 13 (place 1048576 1048577))
+    → IsTooLong words folder → IsRefusedByCommand words folder k p → Grows old new (refused_line k p) → Grows old new (refused_line (refusal_number TooLarge) (place 1048576 1048577))
 long_line_in words folder old new k p r (inl h) grows =
     let same = same_file r.file h.file (sym r.words_are ∙ h.words_are) in
     elim h.refused [
@@ -137,12 +139,12 @@ long_line_in words folder old new k p r (inl h) grows =
           let text = long_once folder r.file h.file r.files r.text t.0 r.told r.held same t.1 in
           let short : length r.text ≤ 1048576 = subst (λ (x : List ℕ). length x ≤ 1048576) text t.2 in
           absurd (omega (arith, short, r.long))
-      | inr t ↦ subst (λ q. Grows old new (refused_line 13 q)) t.2 (subst (λ n. Grows old new (refused_line n p)) t.1 grows)
+      | inr t ↦ subst (λ q. Grows old new (refused_line (refusal_number TooLarge) q)) t.2 (subst (λ n. Grows old new (refused_line n p)) t.1 grows)
     ]
 long_line_in words folder old new k p r (inr h) grows = absurd (two_commands words r.file h.script h.scenario r.words_are h.words_are)
 
 pub too_long_line : (words : List (List ℕ)) (folder : Option Folder) (f g : List ℕ → ℕ) (old new : Option (List ℕ)) (c d s t status : ℕ)
-    → IsEnd words folder f g old new c d s t status → IsTooLong words folder → status ≡ 2 → Grows old new (refused_line 13 (place 1048576 1048577))
+    → IsEnd words folder f g old new c d s t status → IsTooLong words folder → status ≡ 2 → Grows old new (refused_line (refusal_number TooLarge) (place 1048576 1048577))
 too_long_line words folder f g old new c d s t status h r e =
     let found = refused words folder f g old new c d s t status h e in
     long_line_in words folder old new found.0 found.1 r found.2 found.3

@@ -7,7 +7,7 @@ use Rattle.pv_values.specs.declared.refusal.Place.{Place}
 use Rattle.proxy_top.specs.declared.top.Ending.{Ending}
 use Rattle.proxy_top.specs.declared.top.Ending.TheVariants as outcome
 use Rattle.proxy_top.specs.Commands.{IsNoCommand}
-use Rattle.proxy_top.specs.Endings.{IsEnding, IsDone, IsRefused, IsWrongLine, IsToRead, IsUnread, IsReported, IsEnd, IsStatus, Gives, status_of, text_of, accepted_line, usage_line, refused_line, wrong_line, unread_line, PrintsMemory}
+use Rattle.proxy_top.specs.Endings.{IsEnding, IsDone, IsRefusedByCommand, IsWrongLine, IsToRead, IsUnread, IsReported, IsEnd, IsStatus, Gives, status_of, text_of, accepted_line, usage_line, refused_line, wrong_line, unread_line, PrintsMemory}
 
 -- below 5 the status is that of an ending
 reported : (words : List (List ℕ)) (folder : Option Folder) (f g : List ℕ → ℕ) (old new : Option (List ℕ)) (c d s t status : ℕ) → IsEnd words folder f g old new c d s t status → status < 5 → IsReported words folder f g old new status
@@ -44,7 +44,7 @@ usage words folder f g old new c d s t status h e =
     let r = reported words folder f g old new c d s t status h (omega (arith, e)) in usage_in words folder f g old new status r.ending r.status_is r.ends r.text e
 
 refused_in : (words : List (List ℕ)) (folder : Option Folder) (f g : List ℕ → ℕ) (old new : Option (List ℕ)) (status : ℕ) (ending : Ending)
-    → status ≡ status_of ending → IsEnding words folder f g ending → Grows old new (text_of ending) → status ≡ 2 → (kind : ℕ) × (at : Place) × IsRefused words folder kind at × Grows old new (refused_line kind at)
+    → status ≡ status_of ending → IsEnding words folder f g ending → Grows old new (text_of ending) → status ≡ 2 → (kind : ℕ) × (at : Place) × IsRefusedByCommand words folder kind at × Grows old new (refused_line kind at)
 refused_in words folder f g old new status outcome.Accepted is ends text e = absurd (omega (arith, is, e))
 refused_in words folder f g old new status (outcome.Ran trace) is ends text e = absurd (omega (arith, is, e))
 refused_in words folder f g old new status outcome.Usage is ends text e = absurd (omega (arith, is, e))
@@ -53,7 +53,7 @@ refused_in words folder f g old new status (outcome.WrongLine line) is ends text
 refused_in words folder f g old new status (outcome.Unread name) is ends text e = absurd (omega (arith, is, e))
 
 pub refused : (words : List (List ℕ)) (folder : Option Folder) (f g : List ℕ → ℕ) (old new : Option (List ℕ)) (c d s t status : ℕ) → IsEnd words folder f g old new c d s t status → status ≡ 2
-    → (kind : ℕ) × (at : Place) × IsRefused words folder kind at × Grows old new (refused_line kind at)
+    → (kind : ℕ) × (at : Place) × IsRefusedByCommand words folder kind at × Grows old new (refused_line kind at)
 refused words folder f g old new c d s t status h e =
     let r = reported words folder f g old new c d s t status h (omega (arith, e)) in refused_in words folder f g old new status r.ending r.status_is r.ends r.text e
 
@@ -122,7 +122,7 @@ none_to_read words folder name none (inl check) = none.no_check name check
 none_to_read words folder name none (inr (inl (scenario, sim))) = none.no_sim name scenario sim
 none_to_read words folder name none (inr (inr sim)) = none.no_sim sim.script name sim.words_are
 
-none_refused : (words : List (List ℕ)) (folder : Option Folder) (kind : ℕ) (at : Place) → IsNoCommand words → IsRefused words folder kind at → ⊥
+none_refused : (words : List (List ℕ)) (folder : Option Folder) (kind : ℕ) (at : Place) → IsNoCommand words → IsRefusedByCommand words folder kind at → ⊥
 none_refused words folder kind at none (inl r) = none.no_check r.file r.words_are
 none_refused words folder kind at none (inr r) = none.no_sim r.script r.scenario r.words_are
 

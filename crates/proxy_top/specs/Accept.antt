@@ -5,6 +5,8 @@ use Rattle.pv_values.specs.declared.refusal.ScriptFault.{ScriptFault}
 use Rattle.pv_values.specs.declared.refusal.ScriptFault.TheVariants as fault
 use Rattle.cfg_tree.specs.declared.token.Token.{Token}
 use Rattle.cfg_tree.specs.declared.script.Script.{Script}
+use Rattle.cfg_tree.specs.declared.refusal_kind.RefusalKind.TheVariants.{Syntax}
+use Rattle.cfg_tree.specs.RefusalKinds.{refusal_number}
 use Rattle.cfg_tree.specs.Checks.{Accepted, Refused}
 use Rattle.cfg_lex.specs.Tokens.{TokensOf, FaultOf}
 
@@ -12,18 +14,18 @@ use Rattle.cfg_lex.specs.Tokens.{TokensOf, FaultOf}
 abbrev pub AcceptsText : List ℕ → Script → Type 0
 AcceptsText text script = (tokens : List Token) × TokensOf text tokens × Accepted tokens (length text) script
 
--- this is the first fault of the text, or the text has tokens, which are refused so. Of kind 3, Syntax, the place isn't said.
+-- this is the first fault of the text, or the text has tokens, which are refused so. Of Syntax the place isn't said.
 abbrev pub RefusesText : List ℕ → ℕ → Place → Type 0
 RefusesText text kind at =
     FaultOf text (fault.Refused kind at) ⊎ ((tokens : List Token) × TokensOf text tokens × Refused tokens (length text) kind at)
 
 -- a refusal that is given is one of the text
-abbrev pub IsRefusalOf : List ℕ → ScriptFault → Type 0
-IsRefusalOf text (fault.Refused kind at) = RefusesText text kind at
-IsRefusalOf text fault.NoMemory = Unit {0}
+abbrev pub IsTextRefusal : List ℕ → ScriptFault → Type 0
+IsTextRefusal text (fault.Refused kind at) = RefusesText text kind at
+IsTextRefusal text fault.NoMemory = Unit {0}
 
--- a refusal of this kind is given, and one that isn't Syntax begins at this byte; or memory is wanting
-abbrev pub GivesRefusal : ℕ → Place → Result Script ScriptFault → Type 0
-GivesRefusal kind at (Ok script) = ⊥
-GivesRefusal kind at (Err (fault.Refused k p)) = (k ≡ kind) × (kind ≢ 3 → p.from ≡ at.from)
-GivesRefusal kind at (Err fault.NoMemory) = Unit {0}
+-- a refusal of this kind is given, and one that isn't Syntax begins at this byte; or it is out of memory
+abbrev pub GivesTextRefusal : ℕ → Place → Result Script ScriptFault → Type 0
+GivesTextRefusal kind at (Ok script) = ⊥
+GivesTextRefusal kind at (Err (fault.Refused k p)) = (k ≡ kind) × (kind ≢ refusal_number Syntax → p.from ≡ at.from)
+GivesTextRefusal kind at (Err fault.NoMemory) = Unit {0}

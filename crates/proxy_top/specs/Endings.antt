@@ -7,6 +7,8 @@ use Rattle.outside_ports.specs.Told.{Grows}
 use Rattle.outside_ports.specs.declared.port.Arrival.{Arrival}
 use Rattle.pv_values.specs.declared.refusal.Place.{Place}
 use Rattle.cfg_tree.specs.declared.script.Script.{Script}
+use Rattle.cfg_tree.specs.declared.refusal_kind.RefusalKind.TheVariants.{Syntax, TooLarge}
+use Rattle.cfg_tree.specs.RefusalKinds.{refusal_number}
 use Rattle.proxy_top.specs.declared.script.AnswerAll.{AnswerAll}
 use Rattle.proxy_top.specs.declared.top.Ending.{Ending}
 use Rattle.proxy_top.specs.declared.top.Ending.TheVariants as outcome
@@ -44,7 +46,7 @@ memory_line = codes "out of memory\n"
 -- ---- how the command `check` ends
 
 -- the words are `check`, and the file holds a text that is accepted
-pub record IsAccepted (words : List (List ℕ)) (folder : Option Folder) : Type 0 where
+pub record IsAcceptedByCheck (words : List (List ℕ)) (folder : Option Folder) : Type 0 where
   pub file : List ℕ
   pub words_are : words ≡ check_words file
   pub text : List ℕ
@@ -56,7 +58,7 @@ pub record IsAccepted (words : List (List ℕ)) (folder : Option Folder) : Type 
 abbrev pub RefusesFile : Option Folder → List ℕ → ℕ → Place → Type 0
 RefusesFile folder file kind at =
     ((text : List ℕ) × Holds folder file text × (length text ≤ 1048576) × RefusesText text kind at)
-    ⊎ (IsLonger folder file 1048576 × (kind ≡ 13) × (at ≡ place 1048576 1048577))
+    ⊎ (IsLonger folder file 1048576 × (kind ≡ refusal_number TooLarge) × (at ≡ place 1048576 1048577))
 
 -- the words are `check`, and the file is refused with this kind at this place
 pub record IsRefusedByCheck (words : List (List ℕ)) (folder : Option Folder) (kind : ℕ) (at : Place) : Type 0 where
@@ -86,16 +88,16 @@ pub record IsRun (words : List (List ℕ)) (folder : Option Folder) (printed : L
   pub reads : IsScenario text arrivals end
   pub trace_is : printed ≡ trace (solo answer arrivals) end
 
--- the words are `sim`, and the script is in no form, or longer than 1 MiB: that is kind 3 at 0..0
+-- the words are `sim`, and the script is malformed, or longer than 1 MiB: that is Syntax at 0..0
 pub record IsRefusedBySim (words : List (List ℕ)) (folder : Option Folder) (kind : ℕ) (at : Place) : Type 0 where
   pub script : List ℕ
   pub scenario : List ℕ
   pub words_are : words ≡ sim_words script scenario
-  pub kind_is : kind ≡ 3
+  pub kind_is : kind ≡ refusal_number Syntax
   pub at_is : at ≡ place 0 0
   pub refused : ((text : List ℕ) × Holds folder script text × ((answer : AnswerAll) → IsScript text answer → ⊥)) ⊎ IsLonger folder script 1048576
 
--- the words are `sim` with a script that reads, and this line of the scenario is the first in no form, or 0 where the
+-- the words are `sim` with a script that reads, and this line of the scenario is the first malformed one, or 0 where the
 -- scenario is longer than 4 MiB
 pub record IsWrongLine (words : List (List ℕ)) (folder : Option Folder) (line : ℕ) : Type 0 where
   pub script : List ℕ
@@ -109,20 +111,20 @@ pub record IsWrongLine (words : List (List ℕ)) (folder : Option Folder) (line 
 
 -- the command is done, and this is what it prints
 abbrev pub IsDone : List (List ℕ) → Option Folder → List ℕ → Type 0
-IsDone words folder printed = (IsAccepted words folder × (printed ≡ accepted_line)) ⊎ IsRun words folder printed
+IsDone words folder printed = (IsAcceptedByCheck words folder × (printed ≡ accepted_line)) ⊎ IsRun words folder printed
 
 -- the script is refused with this kind at this place
-abbrev pub IsRefused : List (List ℕ) → Option Folder → ℕ → Place → Type 0
-IsRefused words folder kind at = IsRefusedByCheck words folder kind at ⊎ IsRefusedBySim words folder kind at
+abbrev pub IsRefusedByCommand : List (List ℕ) → Option Folder → ℕ → Place → Type 0
+IsRefusedByCommand words folder kind at = IsRefusedByCheck words folder kind at ⊎ IsRefusedBySim words folder kind at
 
--- the words are `sim`, and the file of this name is the scenario, behind a script that reads
+-- the words are `sim`, and the file of this name is the scenario, after a script that reads
 pub record IsScenarioOf (words : List (List ℕ)) (folder : Option Folder) (name : List ℕ) : Type 0 where
   pub script : List ℕ
   pub words_are : words ≡ sim_words script name
   pub answer : AnswerAll
   pub accepted : ReadsScript folder script answer
 
--- the file of this name is to be read: it is the script, or the scenario behind a script that reads
+-- the file of this name is to be read: it is the script, or the scenario after a script that reads
 abbrev pub IsToRead : List (List ℕ) → Option Folder → List ℕ → Type 0
 IsToRead words folder name =
     (words ≡ check_words name) ⊎ (((scenario : List ℕ) × (words ≡ sim_words name scenario)) ⊎ IsScenarioOf words folder name)
@@ -133,10 +135,10 @@ pub record IsUnread (words : List (List ℕ)) (folder : Option Folder) (old_faul
   pub rose : Rises (old_faults name) (new_faults name)
 
 abbrev pub IsEnding : List (List ℕ) → Option Folder → (List ℕ → ℕ) → (List ℕ → ℕ) → Ending → Type 0
-IsEnding words folder old_faults new_faults outcome.Accepted = IsAccepted words folder
+IsEnding words folder old_faults new_faults outcome.Accepted = IsAcceptedByCheck words folder
 IsEnding words folder old_faults new_faults (outcome.Ran text) = IsRun words folder text.items
 IsEnding words folder old_faults new_faults outcome.Usage = IsNoCommand words
-IsEnding words folder old_faults new_faults (outcome.Refused kind at) = IsRefused words folder kind at
+IsEnding words folder old_faults new_faults (outcome.Refused kind at) = IsRefusedByCommand words folder kind at
 IsEnding words folder old_faults new_faults (outcome.WrongLine line) = IsWrongLine words folder line
 IsEnding words folder old_faults new_faults (outcome.Unread name) = IsUnread words folder old_faults new_faults name.now
 
@@ -162,17 +164,17 @@ pub record Fails (old new : Option (List ℕ)) (old_faults new_faults status : �
   pub rose : Rises old_faults new_faults
   pub nothing : Grows old new []
 
--- the line of no memory was printed; or nothing was, and the console's count of shortages rose
+-- the line of out of memory was printed; or nothing was, and the console's count of shortages rose
 abbrev pub PrintsMemory : Option (List ℕ) → Option (List ℕ) → ℕ → ℕ → Type 0
 PrintsMemory old new old_shortages new_shortages =
     Grows old new memory_line ⊎ (Rises old_shortages new_shortages × Grows old new [])
 
--- no memory was found
+-- it was out of memory
 pub record RunsOut (old new : Option (List ℕ)) (old_shortages new_shortages status : ℕ) : Type 0 where
   pub is : status ≡ 8
   pub line : PrintsMemory old new old_shortages new_shortages
 
--- this text was printed with this status, unless the console failed or no memory was found
+-- this text was printed with this status, unless the console failed or it was out of memory
 abbrev pub IsPrinted : ℕ → List ℕ → Option (List ℕ) → Option (List ℕ) → ℕ → ℕ → ℕ → ℕ → ℕ → Type 0
 IsPrinted meant text old new old_faults new_faults old_shortages new_shortages status =
     ((status ≡ meant) × Grows old new text) ⊎ (Fails old new old_faults new_faults status ⊎ RunsOut old new old_shortages new_shortages status)
@@ -184,7 +186,7 @@ pub record IsReported (words : List (List ℕ)) (folder : Option Folder) (old_fi
   pub status_is : status ≡ status_of ending
   pub text : Grows old new (text_of ending)
 
--- how a command may end: so, or the console failed, or no memory was found
+-- how a command may end: so, or the console failed, or it was out of memory
 abbrev pub IsEnd : List (List ℕ) → Option Folder → (List ℕ → ℕ) → (List ℕ → ℕ) → Option (List ℕ) → Option (List ℕ) → ℕ → ℕ → ℕ → ℕ → ℕ → Type 0
 IsEnd words folder old_files new_files old new old_faults new_faults old_shortages new_shortages status =
     IsReported words folder old_files new_files old new status
@@ -199,7 +201,7 @@ IsStatus status =
 abbrev pub IsCalm : (List ℕ → ℕ) → (List ℕ → ℕ) → Type 0
 IsCalm old_files new_files = (name : List ℕ) → ¬ Rises (old_files name) (new_files name)
 
--- the status, where no count of faults rose: the one that is meant, or the one of no memory
+-- the status, where no count of faults rose: the one that is meant, or the one of out of memory
 abbrev pub Gives : ℕ → (List ℕ → ℕ) → (List ℕ → ℕ) → ℕ → ℕ → ℕ → Type 0
 Gives meant old_files new_files old_faults new_faults status =
     IsCalm old_files new_files → ¬ Rises old_faults new_faults → (status ≡ meant) ⊎ (status ≡ 8)
@@ -240,7 +242,7 @@ pub record IsTooLong (words : List (List ℕ)) (folder : Option Folder) : Type 0
 
 -- printed was a refusal of this kind, which, unless it is Syntax, begins at this byte
 abbrev pub PrintsRefusal : ℕ → Place → Option (List ℕ) → Option (List ℕ) → Type 0
-PrintsRefusal kind at old new = (p : Place) × (kind ≢ 3 → p.from ≡ at.from) × Grows old new (refused_line kind p)
+PrintsRefusal kind at old new = (p : Place) × (kind ≢ refusal_number Syntax → p.from ≡ at.from) × Grows old new (refused_line kind p)
 
 -- the words are `sim`, and both files read
 pub record IsReady (words : List (List ℕ)) (folder : Option Folder) : Type 0 where
@@ -257,8 +259,8 @@ pub record IsReady (words : List (List ℕ)) (folder : Option Folder) : Type 0 w
   pub end : ℕ
   pub reads : IsScenario lines arrivals end
 
--- the words are `sim`, and the script is in no form
-pub record IsInNoForm (words : List (List ℕ)) (folder : Option Folder) : Type 0 where
+-- the words are `sim`, and the script is malformed
+pub record IsMalformedScript (words : List (List ℕ)) (folder : Option Folder) : Type 0 where
   pub script : List ℕ
   pub scenario : List ℕ
   pub words_are : words ≡ sim_words script scenario
@@ -266,8 +268,8 @@ pub record IsInNoForm (words : List (List ℕ)) (folder : Option Folder) : Type 
   pub held : Tells folder script 1048576 text
   pub refused : (answer : AnswerAll) → IsScript text answer → ⊥
 
--- the words are `sim`, the script reads, and this line of the scenario is the first in no form
-pub record IsInWrongLine (words : List (List ℕ)) (folder : Option Folder) (line : ℕ) : Type 0 where
+-- the words are `sim`, the script reads, and this line of the scenario is the first malformed one
+pub record IsMalformedScenario (words : List (List ℕ)) (folder : Option Folder) (line : ℕ) : Type 0 where
   pub script : List ℕ
   pub scenario : List ℕ
   pub words_are : words ≡ sim_words script scenario

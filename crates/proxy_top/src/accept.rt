@@ -4,7 +4,7 @@ ghost use Rattle.std.specs.Prelude.{◌≡◌, ◌≢◌, ℕ, List, IfOk, IfErr
 ghost use Rattle.pv_values.specs.declared.refusal.Place.{Place};
 ghost use Rattle.cfg_tree.specs.declared.script.Script.{Script};
 ghost use Rattle.cfg_check.specs.Answer.{GivesScript};
-ghost use Rattle.proxy_top.specs.Accept.{AcceptsText, RefusesText, IsRefusalOf, GivesRefusal};
+ghost use Rattle.proxy_top.specs.Accept.{AcceptsText, RefusesText, IsTextRefusal, GivesTextRefusal};
 
 use cfg_check::check;
 use cfg_lex::laws::{
@@ -24,9 +24,9 @@ use std::alloc::Global;
 /// byte where that begins. The place of a `Syntax` is the one that `parse` gives.
 pub fn accepted(alloc: Global, text: &[u8]) -> Result<ClosedScript, ScriptFault>
     ensures accepted { IfOk result (AcceptsText text.now) }
-    ensures refused { IfErr result (IsRefusalOf text.now) }
+    ensures refused { IfErr result (IsTextRefusal text.now) }
     ensures whole { (script : Script) → AcceptsText text.now script → GivesScript script result }
-    ensures first { (kind : ℕ) (at : Place) → RefusesText text.now kind at → GivesRefusal kind at result }
+    ensures first { (kind : ℕ) (at : Place) → RefusesText text.now kind at → GivesTextRefusal kind at result }
 {
     let tokens = lex(alloc, text)?;
     let raw = parse(alloc, text, tokens.as_slice())?;

@@ -4,11 +4,13 @@ ghost use Rattle.std.specs.Prelude.{◌≡◌, ◌≤◌, ◌⊎◌, [], ℕ, Li
 ghost use Rattle.outside_ports.specs.Counts.{Rises};
 ghost use Rattle.outside_ports.specs.Told.{Grows};
 ghost use Rattle.pv_values.specs.declared.refusal.Place.{Place};
+ghost use Rattle.cfg_tree.specs.declared.refusal_kind.RefusalKind.TheVariants.{TooLarge};
+ghost use Rattle.cfg_tree.specs.RefusalKinds.{refusal_number};
 ghost use Rattle.proxy_top.specs.Commands.{words_of, check_words, sim_words, IsNoCommand};
 ghost use Rattle.proxy_top.specs.Endings.{
   IsEnding,
   IsDone,
-  IsRefused,
+  IsRefusedByCommand,
   IsWrongLine,
   IsUnread,
   IsPrinted,
@@ -20,8 +22,8 @@ ghost use Rattle.proxy_top.specs.Endings.{
   IsTooLong,
   PrintsRefusal,
   PrintsMemory,
-  IsInNoForm,
-  IsInWrongLine,
+  IsMalformedScript,
+  IsMalformedScenario,
   IsReady,
   place,
   status_of,
@@ -55,7 +57,13 @@ const PAST_LONGEST: Place = Place {
     to: LONGEST_SCRIPT + 1,
 };
 
-/// Where `sim` refuses a script that is in no form.
+/// The number of the kind `TooLarge`, of a file above 1 MiB.
+const TOO_LARGE: u8 = 13;
+
+/// The number of the kind `Syntax`, of each script that `sim` refuses.
+const SYNTAX: u8 = 3;
+
+/// Where `sim` refuses a script that is malformed.
 const NOWHERE: Place = Place { from: 0, to: 0 };
 
 /// How a command ended.
@@ -68,7 +76,7 @@ enum Ending<'a> {
     Usage,
     /// The script is refused.
     Refused { kind: u8, at: Place },
-    /// The first line of the scenario that is in no form; 0 where the scenario is too long.
+    /// The first line of the scenario that is malformed; 0 where the scenario is too long.
     WrongLine(u64),
     /// The file of this name can't be read.
     Unread(&'a str),
@@ -79,17 +87,17 @@ enum Ending<'a> {
 /// | status | comes | printed line |
 /// |-|-|-|
 /// | 0 | the command is done | `accepted` of `check`, the trace of `sim` |
-/// | 1 | the words are in no form | `usage: ..` |
+/// | 1 | the words are malformed | `usage: ..` |
 /// | 2 | the script isn't accepted | `refused KIND at FROM..TO` |
-/// | 3 | that line of the scenario is the first in no form | `scenario line N` |
+/// | 3 | that line of the scenario is the first that is malformed | `scenario line N` |
 /// | 4 | a file couldn't be read | `cannot read NAME` |
 /// | 5 | the console failed, whatever the command came to | |
-/// | 8 | no memory was found | `out of memory`, or nothing where the console found none |
+/// | 8 | it was out of memory | `out of memory`, or nothing where the console was out of memory too |
 ///
-/// The scenario is read once the script was read and is one. So status 4 comes with the scenario's name behind a script
+/// The scenario is read once the script was read and is one. So status 4 comes with the scenario's name after a script
 /// that reads alone, and with no other name than that of a file whose count of faults rose.
-/// A script of more than 1,048,576 bytes is refused by `check` with kind 13 at 1048576..1048577. Each script that `sim`
-/// refuses is of kind 3 at 0..0. Of a refusal of kind 3 by `check` no clause says the place.
+/// A script of more than 1,048,576 bytes is refused by `check` as TooLarge at 1048576..1048577. Each script that `sim`
+/// refuses is Syntax at 0..0. Of a Syntax by `check` no clause says the place.
 #[tactic(auto, using(crate::proofs::Statuses::done, crate::proofs::Statuses::usage, crate::proofs::Statuses::refused, crate::proofs::Statuses::in_wrong_line, crate::proofs::Statuses::unread, crate::proofs::Statuses::failed, crate::proofs::Statuses::memory, crate::proofs::Statuses::known, crate::proofs::Statuses::no_command, crate::proofs::Causes::no_form, crate::proofs::Checks::too_long, crate::proofs::Checks::too_long_line))]
 pub fn simulate<F: Files, C: Console>(
     alloc: Global,
@@ -101,7 +109,7 @@ pub fn simulate<F: Files, C: Console>(
         × Grows (C.printed console.old) (C.printed console.new) text }
     ensures usage { result ≡ 1 → IsNoCommand (words_of words.now)
         × Grows (C.printed console.old) (C.printed console.new) usage_line }
-    ensures refused { result ≡ 2 → (kind : ℕ) × (at : Place) × IsRefused (words_of words.now) (F.folder files.old) kind at
+    ensures refused { result ≡ 2 → (kind : ℕ) × (at : Place) × IsRefusedByCommand (words_of words.now) (F.folder files.old) kind at
         × Grows (C.printed console.old) (C.printed console.new) (refused_line kind at) }
     ensures wrong_line { result ≡ 3 → (line : ℕ) × IsWrongLine (words_of words.now) (F.folder files.old) line
         × Grows (C.printed console.old) (C.printed console.new) (wrong_line line) }
@@ -128,9 +136,9 @@ pub fn simulate<F: Files, C: Console>(
         → Gives 2 (F.faults files.old) (F.faults files.new) (C.faults console.old) (C.faults console.new) result }
     ensures check_too_long { IsTooLong (words_of words.now) (F.folder files.old)
         → Gives 2 (F.faults files.old) (F.faults files.new) (C.faults console.old) (C.faults console.new) result }
-    ensures no_form { IsInNoForm (words_of words.now) (F.folder files.old)
+    ensures no_form { IsMalformedScript (words_of words.now) (F.folder files.old)
         → Gives 2 (F.faults files.old) (F.faults files.new) (C.faults console.old) (C.faults console.new) result }
-    ensures in_wrong_line { (line : ℕ) → IsInWrongLine (words_of words.now) (F.folder files.old) line
+    ensures in_wrong_line { (line : ℕ) → IsMalformedScenario (words_of words.now) (F.folder files.old) line
         → Gives 3 (F.faults files.old) (F.faults files.new) (C.faults console.old) (C.faults console.new) result }
     ensures ready { IsReady (words_of words.now) (F.folder files.old)
         → Gives 0 (F.faults files.old) (F.faults files.new) (C.faults console.old) (C.faults console.new) result }
@@ -139,7 +147,7 @@ pub fn simulate<F: Files, C: Console>(
     ensures refused_by_check { (kind : ℕ) (at : Place) → IsToRefuse (words_of words.now) (F.folder files.old) kind at
         → result ≡ 2 → PrintsRefusal kind at (C.printed console.old) (C.printed console.new) }
     ensures refused_too_long { IsTooLong (words_of words.now) (F.folder files.old)
-        → result ≡ 2 → Grows (C.printed console.old) (C.printed console.new) (refused_line 13 (place 1048576 1048577)) }
+        → result ≡ 2 → Grows (C.printed console.old) (C.printed console.new) (refused_line (refusal_number TooLarge) (place 1048576 1048577)) }
 
     ensures same { F.folder files.new ≡ F.folder files.old }
     ensures files_never_fall { (name : List ℕ) → F.faults files.old name ≤ F.faults files.new name }
@@ -294,7 +302,7 @@ fn check<'a, F: Files>(alloc: Global, file: &'a str, files: &mut F) -> Result<En
         Err(FileFault::Failed) => return Ok(Ending::Unread(file)),
         Err(FileFault::TooLong) => {
             return Ok(Ending::Refused {
-                kind: 13,
+                kind: TOO_LARGE,
                 at: PAST_LONGEST,
             });
         }
@@ -323,14 +331,14 @@ fn sim<'a, F: Files>(
         Ok(text) => text,
         Err(FileFault::Failed) => return Ok(Ending::Unread(script)),
         Err(FileFault::TooLong) => return Ok(Ending::Refused {
-            kind: 3,
+            kind: SYNTAX,
             at: NOWHERE,
         }),
         Err(FileFault::NoMemory) => return Err(NoMemory),
     };
     let Some(answer) = read_script(text.as_slice()) else {
         return Ok(Ending::Refused {
-            kind: 3,
+            kind: SYNTAX,
             at: NOWHERE,
         });
     };

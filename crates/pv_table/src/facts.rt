@@ -1,5 +1,5 @@
 //! The data of a run: what it knows of its message and of its transaction, and what it has decided so far.
-ghost use Rattle.std.specs.Prelude.{◌≡◌, ◌∷◌, ◌++◌, [], OnOk, OnErr, None};
+ghost use Rattle.std.specs.Prelude.{◌≡◌};
 
 use crate::avps::Avps;
 use arrayvec::ArrayVec;
@@ -7,8 +7,8 @@ use buf_pool::Block;
 use msg_edits::Edits;
 use outside_ports::Addr;
 use pv_values::{BlockKind, Text};
-use std::alloc::{AllocError as NoMemory, Global};
-use std::marker::Model;
+use sqlite_items::Items;
+use std::alloc::Global;
 
 /// How many blocks a run can hold: two for each of the twelve branches of a transaction.
 pub const BLOCKS: usize = 24;
@@ -39,8 +39,8 @@ pub struct Facts {
     pub uri: Text,
     /// `$du`, the destination URI, where an assignment or `loose_route` set it.
     pub destination: Option<Text>,
-    /// The targets that `append_branch` added and no `t_relay` has used yet.
-    pub targets: Targets,
+    /// The targets that `append_branch` added and no `t_relay` has used yet, in this order.
+    pub targets: Items<Target>,
     /// The blocks that `t_on_branch`, `t_on_failure` and `t_on_reply` armed.
     pub armed: ArmedBlocks,
     /// The values of `$avp`, by assignments.
@@ -48,7 +48,7 @@ pub struct Facts {
     /// What `sl_send_reply`, `t_reply`, `t_relay` or `t_suspend` decided.
     pub outcome: Outcome,
     /// The provisional responses that `t_reply` decided, in this order. They are no outcome.
-    pub provisionals: Responses,
+    pub provisionals: Items<Response>,
     /// `t_set_fr` sets them.
     pub final_timers: FinalTimers,
     /// The number of the transaction's slot.
@@ -94,7 +94,7 @@ impl Facts {
             edits: Edits::new(),
             uri,
             destination: None,
-            targets: Targets::new(alloc),
+            targets: Items::new(alloc),
             armed: ArmedBlocks {
                 branch: None,
                 failure: None,
@@ -102,7 +102,7 @@ impl Facts {
             },
             avps: Avps::new(alloc),
             outcome: Outcome::Undecided,
-            provisionals: Responses::new(alloc),
+            provisionals: Items::new(alloc),
             final_timers,
             slot: 0,
             label: None,
@@ -131,47 +131,6 @@ pub struct Target {
     pub destination: Option<Text>,
 }
 
-/// The targets that were appended, in this order. Contracts see them as that list.
-#[derive(Drop)]
-pub struct Targets {
-    list: Vec<Target>,
-}
-
-impl Model for Targets {
-    ghost use Rattle.std.specs.Prelude.{List};
-    ghost use Rattle.pv_table.specs.declared.facts.Target.{Target};
-
-    ghost Value = { List Target };
-
-    ghost view = { λ t. t.list.items };
-}
-
-impl Targets {
-    /// No targets.
-    pub fn new(alloc: Global) -> Targets
-        ensures { result ≡ [] }
-    {
-        Targets {
-            list: Vec::new(alloc),
-        }
-    }
-
-    pub fn as_slice(&self) -> &[Target]
-        ensures { result.now ≡ self.now }
-    {
-        self.list.as_slice()
-    }
-
-    /// Puts a target after the others.
-    pub fn push(&mut self, target: Target) -> Result<(), NoMemory>
-        ensures ok { OnOk result (self.new ≡ self.old ++ target ∷ []) }
-        ensures err { OnErr result (self.new ≡ self.old) }
-    {
-        self.list.push(target)?;
-        Ok(())
-    }
-}
-
 /// The numbers of the blocks that are armed, by kind.
 #[derive(Clone, Copy, Debug, PartialEq, Eq)]
 pub struct ArmedBlocks {
@@ -189,47 +148,6 @@ pub struct Response {
     /// 100 to 699.
     pub code: u16,
     pub reason: Text,
-}
-
-/// Responses in the order in which they were decided. Contracts see them as that list.
-#[derive(Drop)]
-pub struct Responses {
-    list: Vec<Response>,
-}
-
-impl Model for Responses {
-    ghost use Rattle.std.specs.Prelude.{List};
-    ghost use Rattle.pv_table.specs.declared.facts.Response.{Response};
-
-    ghost Value = { List Response };
-
-    ghost view = { λ r. r.list.items };
-}
-
-impl Responses {
-    /// No responses.
-    pub fn new(alloc: Global) -> Responses
-        ensures { result ≡ [] }
-    {
-        Responses {
-            list: Vec::new(alloc),
-        }
-    }
-
-    pub fn as_slice(&self) -> &[Response]
-        ensures { result.now ≡ self.now }
-    {
-        self.list.as_slice()
-    }
-
-    /// Puts a response after the others.
-    pub fn push(&mut self, response: Response) -> Result<(), NoMemory>
-        ensures ok { OnOk result (self.new ≡ self.old ++ response ∷ []) }
-        ensures err { OnErr result (self.new ≡ self.old) }
-    {
-        self.list.push(response)?;
-        Ok(())
-    }
 }
 
 /// What a run has decided on its message. It decides once.

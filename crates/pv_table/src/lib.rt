@@ -18,8 +18,7 @@ mod writing;
 
 pub use avps::{Avp, Avps};
 pub use facts::{
-    ArmedBlocks, BLOCKS, Facts, FinalTimers, Outcome, Response, Responses, RunData, Standing,
-    Target, Targets,
+    ArmedBlocks, BLOCKS, Facts, FinalTimers, Outcome, Response, RunData, Standing, Target,
 };
 pub use pv_values::BlockKind;
 pub use reading::read_pv;

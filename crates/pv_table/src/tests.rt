@@ -1,4 +1,4 @@
-// What variables read and what assignments make, worked out by hand from the rules.
+//! What variables read and what assignments make, worked out by hand from the rules.
 
 use crate::{Avps, BlockKind, Facts, FinalTimers, read_pv, write_pv};
 use outside_ports::Addr;

@@ -8,7 +8,7 @@ use Rattle.std.specs.List.{list_all}
 use Rattle.std.specs.Str.Parse.{digits_value_after}
 use Rattle.pv_values.specs.Numbers.{numeral}
 
--- the number that digits write behind those of n, where each beginning of it has 64 bits
+-- the number that digits write after those of n, where each beginning of it has 64 bits
 abbrev pub number_after : ℕ → List ℕ → Option ℕ
 number_after n [] = Some n
 number_after n (d ∷ ds) =

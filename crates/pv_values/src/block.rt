@@ -1,4 +1,4 @@
-// Kinds of blocks.
+//! The kinds of blocks from which a run of a script begins (Kamailio core cookbook, "Routing Blocks").
 
 /// The kinds of blocks from which a run begins. `route[NAME]` runs from a block of one of them.
 #[derive(Clone, Copy, Debug, PartialEq, Eq)]

@@ -1,4 +1,4 @@
-// Numbers that texts write.
+//! Numbers that texts write.
 
 ghost use Rattle.std.specs.Prelude.{◌≡◌};
 ghost use Rattle.pv_values.specs.Numbers.{numeral, number_in};

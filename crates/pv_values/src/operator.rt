@@ -1,4 +1,4 @@
-// Operators on values.
+//! The binary operators of the language on values (Kamailio core cookbook, "Operators").
 
 ghost use Rattle.std.specs.Prelude.{◌≡◌, false, int_lt, int_le, IfOk, ◌++◌};
 ghost use Rattle.std.specs.Option.{option_map_or};

@@ -1,4 +1,4 @@
-// Patterns, and what they match.
+//! Patterns of a script (`=~`, `t_check_status`, `sht_rm_name_re`), and what they match.
 
 ghost use Rattle.std.specs.Prelude.{◌≡◌, false, true, IfOk, IfErr, List, ℕ};
 ghost use Rattle.pv_values.specs.Matching.{is_pattern, matches_in};

@@ -1,4 +1,4 @@
-// Why a script is refused.
+//! Why a script is refused.
 
 /// A part of a script's text: from its first byte up to, and without, the byte at `to`.
 #[derive(Clone, Copy, Debug, Default, PartialEq, Eq)]

@@ -1,4 +1,4 @@
-// What a run of a block has, what it asks and is answered, and how it ends.
+//! What a run of a block has, what it asks and is answered, and how it ends.
 
 use crate::function::Func;
 use crate::value::{Val, Vals};

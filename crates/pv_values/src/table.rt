@@ -1,4 +1,4 @@
-// What a script says of its tables.
+//! What a script says of its tables.
 
 ghost use Rattle.std.specs.Prelude.{◌≡◌, IfOk};
 

@@ -1,4 +1,4 @@
-// What the operators give, worked out by hand from the rules.
+//! What the operators give, worked out by hand from the rules.
 
 use crate::{
     BinOp, BlockKind, FuncName, Pattern, PatternFault, Patterns, PvUse, Text, Val, as_int, as_text,
@@ -7,7 +7,7 @@ use crate::{
 use std::alloc::{AllocError, Global};
 use std::test::Fail;
 
-/// A value by a word: `null`, a number, or a text behind a `'`.
+/// A value by a word: `null`, a number, or a text after a `'`.
 fn value(alloc: Global, word: &str) -> Result<Val, AllocError> {
     if let Some(text) = word.strip_prefix('\'') {
         Ok(Val::Text(Text::from_slice(alloc, text.as_bytes())?))

@@ -1,4 +1,4 @@
-// Texts.
+//! Texts of a script and of its values, by their bytes.
 
 ghost use Rattle.std.specs.Prelude.{◌≡◌, ◌++◌, IfOk, OnOk};
 ghost use Rattle.std.specs.Str.{bytes_eq};
@@ -42,7 +42,7 @@ impl Text {
         self.list.as_slice()
     }
 
-    /// Puts bytes behind the text's.
+    /// Puts bytes after the text's.
     pub fn append(&mut self, bytes: &[u8]) -> Result<(), NoMemory>
         ensures { OnOk result (self.new ≡ self.old ++ bytes.now) }
     {

@@ -1,4 +1,4 @@
-// Values: their truth, their number and their text.
+//! Values: their truth, their number and their text.
 
 ghost use Rattle.std.specs.Prelude.{◌≡◌, ◌++◌, ◌∷◌, [], IfOk, OnOk, OnErr, slice_index_or, slice_set, length, ◌<◌};
 ghost use Rattle.pv_values.specs.Values.{is_true, number_of, text_of};

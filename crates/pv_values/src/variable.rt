@@ -1,4 +1,4 @@
-// The variables that a run reads and writes at its host.
+//! The variables that a run reads and writes at its host.
 
 ghost use Rattle.std.specs.Prelude.{◌≡◌, IfOk};
 ghost use Rattle.pv_values.specs.Kinds.{is_written_in};

@@ -118,7 +118,7 @@ module _ (n : ℕ) where
       let b : r'.statements_left * ceiling n ≡ r.statements_left * ceiling n = ap (λ l. l * ceiling n) left in
       omega (arith, a, b, same, rest_pos r.pc r.calls_left w)
 
-  -- behind the instruction
+  -- after the instruction
   abbrev behind : Configuration → Configuration
   behind r = record r { pc = r.pc + 1 }
 

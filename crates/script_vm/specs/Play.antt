@@ -7,7 +7,7 @@ use Rattle.cfg_tree.specs.Meaning.{End}
 use Rattle.script_vm.specs.declared.playing.Played.{Played}
 use Rattle.script_vm.specs.declared.playing.Played.TheVariants as played
 
--- the run needs an answer to this, or has ended so with the answers that it didn't take, exactly where the script means it; or it found no memory
+-- the run needs an answer to this, or has ended so with the answers that it didn't take, exactly where the script means it; or it is out of memory
 abbrev pub IsPlayed : Said HostAsk HostAnswer End → List HostAnswer → Played → Type 0
 IsPlayed said answers played.NoMemory = Unit {0}
 IsPlayed (Need ask) answers (played.Needs asked) = asked ≡ ask

@@ -18,12 +18,12 @@ use Rattle.script_vm.specs.declared.run.RunNext.{RunNext}
 use Rattle.script_vm.specs.declared.run.RunNext.TheVariants.{Asks as RunAsks, Ended as RunEnded, NoMemory}
 
 -- this is what an instruction came to, and what the run has then; memory may run out
-abbrev pub Comes : {A : Type 0} → Next → Result A Stop → Configuration → Type 0
-Comes next (Ok x) run = next ≡ record { event = Moved; run = run }
-Comes next (Err stop.Asked) run = next ≡ record { event = Asked; run = run }
-Comes next (Err stop.Over) run = next ≡ record { event = Over; run = run }
-Comes next (Err stop.Stuck) run = next.event ≡ Stuck
-Comes next (Err stop.NoMemory) run = Unit {0}
+abbrev pub ComesTo : {A : Type 0} → Next → Result A Stop → Configuration → Type 0
+ComesTo next (Ok x) run = next ≡ record { event = Moved; run = run }
+ComesTo next (Err stop.Asked) run = next ≡ record { event = Asked; run = run }
+ComesTo next (Err stop.Over) run = next ≡ record { event = Over; run = run }
+ComesTo next (Err stop.Stuck) run = next.event ≡ Stuck
+ComesTo next (Err stop.NoMemory) run = Unit {0}
 
 -- a script whose patterns are these
 abbrev pub with_patterns : List (List ℕ) → FlatScript → FlatScript

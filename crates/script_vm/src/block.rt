@@ -2,35 +2,34 @@
 
 ghost use Rattle.std.specs.Prelude.{◌≡◌, ◌+◌, ◌<◌, ◌^◌, [], ◌∷◌, MatchOption};
 ghost use Rattle.cfg_code.specs.Machine.{moved, over, jump, exiting_on_zero, calling_block, jumping_if_false_or_pop, jumping_if_true_or_pop, jumping_if_false, casing, counting, beginning_loop, beginning_round, looping_back, ending_loop, breaking, leave, returning};
-ghost use Rattle.script_vm.specs.Running.{Comes};
+ghost use Rattle.script_vm.specs.Running.{ComesTo};
 
 use crate::operand::{ending, returned_code};
 use crate::run::Run;
 use crate::stop::Stop;
 use cfg_code::{Frame, Wait};
-use pv_values::operator::is_same;
-use pv_values::{How, Val, truth};
+use pv_values::{How, Val, is_same, truth};
 
 impl Run {
     /// Ends the run.
     pub(crate) fn over(&mut self, how: How) -> Result<(), Stop>
-        ensures { Comes (over how self.old) result self.new }
+        ensures { ComesTo (over how self.old) result self.new }
     {
         self.wait = Wait::Over(how);
         Err(Stop::Over)
     }
 
-    /// Goes on behind so many instructions.
+    /// Goes on after so many instructions.
     pub(crate) fn jump(&mut self, n: u32) -> Result<(), Stop>
         requires { self.old.pc < 2 ^ 63 }
-        ensures { Comes (jump n self.old) result self.new }
+        ensures { ComesTo (jump n self.old) result self.new }
     {
         self.pc += n as usize;
         Ok(())
     }
 
     pub(crate) fn exit_on_zero(&mut self) -> Result<(), Stop>
-        ensures { Comes (exiting_on_zero self.old.env.rc self.old) result self.new }
+        ensures { ComesTo (exiting_on_zero self.old.env.rc self.old) result self.new }
     {
         if self.env.rc == 0 {
             return self.over(How::Exit);
@@ -40,7 +39,7 @@ impl Run {
 
     /// Calls the block that begins there.
     pub(crate) fn call_block(&mut self, to: usize) -> Result<(), Stop>
-        ensures { Comes (calling_block self.old.calls_left to self.old) result self.new }
+        ensures { ComesTo (calling_block self.old.calls_left to self.old) result self.new }
     {
         if self.calls_left == 0 {
             return self.over(How::DepthLimit);
@@ -56,7 +55,7 @@ impl Run {
 
     pub(crate) fn jump_if_false(&mut self, n: u32) -> Result<(), Stop>
         requires { self.old.pc < 2 ^ 63 }
-        ensures { Comes (jumping_if_false n self.old) result self.new }
+        ensures { ComesTo (jumping_if_false n self.old) result self.new }
     {
         let v = self.pop()?;
         if truth(&v) {
@@ -67,7 +66,7 @@ impl Run {
 
     pub(crate) fn jump_if_false_or_pop(&mut self, n: u32) -> Result<(), Stop>
         requires { self.old.pc < 2 ^ 63 }
-        ensures { Comes (jumping_if_false_or_pop n self.old) result self.new }
+        ensures { ComesTo (jumping_if_false_or_pop n self.old) result self.new }
     {
         let v = self.pop()?;
         if truth(&v) {
@@ -79,7 +78,7 @@ impl Run {
 
     pub(crate) fn jump_if_true_or_pop(&mut self, n: u32) -> Result<(), Stop>
         requires { self.old.pc < 2 ^ 63 }
-        ensures { Comes (jumping_if_true_or_pop n self.old) result self.new }
+        ensures { ComesTo (jumping_if_true_or_pop n self.old) result self.new }
     {
         let v = self.pop()?;
         if !truth(&v) {
@@ -91,7 +90,7 @@ impl Run {
 
     pub(crate) fn case(&mut self, label: &Val, n: u32) -> Result<(), Stop>
         requires { self.old.pc < 2 ^ 63 }
-        ensures { Comes (casing label.now n self.old) result self.new }
+        ensures { ComesTo (casing label.now n self.old) result self.new }
     {
         let v = self.pop()?;
         if is_same(&v, label) {
@@ -103,7 +102,7 @@ impl Run {
 
     /// Counts a statement, or ends the run where it is one too many.
     pub(crate) fn count_statement(&mut self) -> Result<(), Stop>
-        ensures { Comes (counting self.old.statements_left self.old moved) result self.new }
+        ensures { ComesTo (counting self.old.statements_left self.old moved) result self.new }
     {
         if self.statements_left == 0 {
             return self.over(How::ActionLimit);
@@ -114,7 +113,7 @@ impl Run {
 
     pub(crate) fn begin_loop(&mut self, max_rounds: u32, n: u32) -> Result<(), Stop>
         requires { self.old.pc < 2 ^ 63 }
-        ensures { Comes (beginning_loop max_rounds n self.old) result self.new }
+        ensures { ComesTo (beginning_loop max_rounds n self.old) result self.new }
     {
         self.frames.push(Frame::Loop {
             rounds_left: max_rounds,
@@ -125,7 +124,7 @@ impl Run {
     }
 
     pub(crate) fn begin_round(&mut self) -> Result<(), Stop>
-        ensures { Comes (beginning_round self.old.frames self.old) result self.new }
+        ensures { ComesTo (beginning_round self.old.frames self.old) result self.new }
     {
         let Some(
             Frame::Loop {
@@ -150,7 +149,7 @@ impl Run {
 
     /// Goes to the beginning of the loop.
     fn repeat(&mut self) -> Result<(), Stop>
-        ensures { Comes (looping_back self.old.frames self.old) result self.new }
+        ensures { ComesTo (looping_back self.old.frames self.old) result self.new }
     {
         let Some(
             Frame::Loop {
@@ -173,7 +172,7 @@ impl Run {
 
     /// Counts a statement, the loop's next test, and goes there.
     pub(crate) fn loop_back(&mut self) -> Result<(), Stop>
-        ensures { Comes (counting self.old.statements_left self.old (λ r. looping_back r.frames r)) result self.new }
+        ensures { ComesTo (counting self.old.statements_left self.old (λ r. looping_back r.frames r)) result self.new }
     {
         if self.statements_left == 0 {
             return self.over(How::ActionLimit);
@@ -183,7 +182,7 @@ impl Run {
     }
 
     pub(crate) fn end_loop(&mut self) -> Result<(), Stop>
-        ensures { Comes (ending_loop self.old.frames self.old) result self.new }
+        ensures { ComesTo (ending_loop self.old.frames self.old) result self.new }
     {
         match self.frames.pop() {
             Some(Frame::Loop { .. }) => Ok(()),
@@ -193,7 +192,7 @@ impl Run {
 
     /// Goes out of the loop or `switch`, or of the block.
     fn break_off(&mut self) -> Result<(), Stop>
-        ensures { Comes (breaking self.old.frames self.old) result self.new }
+        ensures { ComesTo (breaking self.old.frames self.old) result self.new }
     {
         match self.frames.pop() {
             Some(Frame::Loop { exit, .. }) => {
@@ -209,7 +208,7 @@ impl Run {
     }
 
     pub(crate) fn count_and_break(&mut self) -> Result<(), Stop>
-        ensures { Comes (counting self.old.statements_left self.old (λ r. breaking r.frames r)) result self.new }
+        ensures { ComesTo (counting self.old.statements_left self.old (λ r. breaking r.frames r)) result self.new }
     {
         if self.statements_left == 0 {
             return self.over(How::ActionLimit);
@@ -227,7 +226,7 @@ impl Run {
 
     /// Back with a code to the block that waits, or to the end of the run.
     pub(crate) fn leave(&mut self, code: i64, how: How) -> Result<(), Stop>
-        ensures { Comes (leave self.old.frames code how self.old) result self.new }
+        ensures { ComesTo (leave self.old.frames code how self.old) result self.new }
     {
         while let Some(frame) = self.pop_frame() {
             if let Frame::Back { pc, calls_left } = frame {
@@ -241,7 +240,7 @@ impl Run {
     }
 
     pub(crate) fn return_top(&mut self) -> Result<(), Stop>
-        ensures { Comes (returning self.old) result self.new }
+        ensures { ComesTo (returning self.old) result self.new }
     {
         let v = self.pop()?;
         let code = returned_code(&v);

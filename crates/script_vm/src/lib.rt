@@ -6,11 +6,11 @@
 //! answered: `play` says so of a whole run.
 #![tactic(auto)]
 
-pub mod ask;
+mod ask;
 mod block;
 mod operand;
-pub mod playing;
-pub mod run;
+mod playing;
+mod run;
 mod stack;
 mod step;
 mod stop;

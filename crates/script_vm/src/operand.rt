@@ -4,8 +4,7 @@ ghost use Rattle.std.specs.Prelude.{◌≡◌, IfOk, slice_get};
 ghost use Rattle.pv_values.specs.Values.{negated, code_of, value_read, told_value, told_code};
 ghost use Rattle.cfg_tree.specs.Meaning.{matched, end_of};
 
-use pv_values::operator::text_value;
-use pv_values::{BinOp, HostAnswer, How, Matchers, Val, as_int, as_text, operate};
+use pv_values::{BinOp, HostAnswer, How, Matchers, Val, as_int, as_text, operate, text_value};
 use std::alloc::{AllocError as NoMemory, Global};
 
 /// 0 without a number.

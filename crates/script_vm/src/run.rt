@@ -28,7 +28,7 @@ use std::mem;
 /// How many statements a run may begin.
 const MAX_STATEMENTS: u32 = 100000;
 
-/// A run of a block, which contracts see as what the machine has at a moment.
+/// A run of a block, which contracts see as what the machine has at that time.
 ///
 /// `begin` makes one, and `restart` begins another block with it, in the room that it has. `advance`
 /// takes an answer, the first of which is `Start`, and says whether the run asks or has ended. `asked`
@@ -84,11 +84,11 @@ pub enum Went {
     Asks,
     /// It has ended: `close` takes the end out.
     Ended,
-    /// There was no memory. Only `restart` is of use now.
+    /// It was out of memory. Only `restart` is of use now.
     NoMemory,
 }
 
-/// How a run goes on that is handed on: it asks, or has ended, with its variables, or found no memory.
+/// How a run goes on that is handed on: it asks, or has ended, with its variables, or is out of memory.
 #[derive(Debug, Drop)]
 pub enum RunNext {
     Asks(Run, HostAsk),
@@ -127,7 +127,7 @@ impl Run {
 
     /// Takes the answer to the last ask, and goes on to the next one or to the end, as the script
     /// means. An answer that doesn't fit the ask is read as `$null`, or as the code 0. A run that has
-    /// ended stays as it is, and answers its end again.
+    /// ended stays as it is, and gives its end again.
     pub fn advance(
         &mut self,
         alloc: Global,

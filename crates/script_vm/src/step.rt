@@ -5,16 +5,16 @@ ghost use Rattle.pv_values.specs.Values.{sum_of, binary_value, negated, bit, is_
 ghost use Rattle.cfg_tree.specs.Transformations.{transformed};
 ghost use Rattle.cfg_tree.specs.Meaning.{matched};
 ghost use Rattle.cfg_code.specs.Machine.{moved, put, storing, asking, reading_item, writing, writing_item, changing, joining, pushing_argument, on_top, act, step_of};
-ghost use Rattle.script_vm.specs.Running.{Comes, with_patterns};
+ghost use Rattle.script_vm.specs.Running.{ComesTo, with_patterns};
 
 use crate::operand::{matches, negative};
 use crate::run::Run;
 use crate::stop::Stop;
 use cfg_code::{Instr, Loaded, Wait};
 use cfg_tree::transform;
-use pv_values::operator::{bit_value, sum};
-use pv_values::value::into_text;
-use pv_values::{BinOp, How, Matchers, Transformation, Val, operate, truth};
+use pv_values::{
+    BinOp, How, Matchers, Transformation, Val, bit_value, into_text, operate, sum, truth,
+};
 use std::alloc::Global;
 
 impl Run {
@@ -40,21 +40,21 @@ impl Run {
 
     /// The same as an instruction.
     pub(crate) fn put(&mut self, v: Val) -> Result<(), Stop>
-        ensures { Comes (moved (put v self.old)) result self.new }
+        ensures { ComesTo (moved (put v self.old)) result self.new }
     {
         self.stack.push(v)?;
         Ok(())
     }
 
     fn load(&mut self, alloc: Global, x: u32) -> Result<(), Stop>
-        ensures { Comes (moved (put (slice_index_or self.old.env.vars x Val.Null) self.old)) result self.new }
+        ensures { ComesTo (moved (put (slice_index_or self.old.env.vars x Val.Null) self.old)) result self.new }
     {
         let v = self.env.vars.copy_at(alloc, x as usize)?;
         self.put(v)
     }
 
     fn store(&mut self, x: u32) -> Result<(), Stop>
-        ensures { Comes (storing x self.old) result self.new }
+        ensures { ComesTo (storing x self.old) result self.new }
     {
         let v = self.pop()?;
         let x = x as usize;
@@ -66,7 +66,7 @@ impl Run {
 
     /// Asks, and waits for this.
     fn ask(&mut self, wait: Wait) -> Result<(), Stop>
-        ensures { Comes (asking wait self.old) result self.new }
+        ensures { ComesTo (asking wait self.old) result self.new }
     {
         self.wait = wait;
         Err(Stop::Asked)
@@ -74,7 +74,7 @@ impl Run {
 
     /// Makes the topmost value its text.
     fn read_item(&mut self, alloc: Global) -> Result<(), Stop>
-        ensures { Comes (reading_item self.old) result self.new }
+        ensures { ComesTo (reading_item self.old) result self.new }
     {
         let key = self.pop()?;
         let key = into_text(alloc, key)?;
@@ -83,7 +83,7 @@ impl Run {
     }
 
     fn write(&mut self) -> Result<(), Stop>
-        ensures { Comes (writing self.old) result self.new }
+        ensures { ComesTo (writing self.old) result self.new }
     {
         let v = self.pop()?;
         self.push(v)?;
@@ -91,7 +91,7 @@ impl Run {
     }
 
     fn write_item(&mut self, alloc: Global) -> Result<(), Stop>
-        ensures { Comes (writing_item self.old) result self.new }
+        ensures { ComesTo (writing_item self.old) result self.new }
     {
         let v = self.pop()?;
         let key = self.pop()?;
@@ -102,7 +102,7 @@ impl Run {
     }
 
     fn transform(&mut self, alloc: Global, transformation: Transformation) -> Result<(), Stop>
-        ensures { Comes (changing (transformed transformation) self.old) result self.new }
+        ensures { ComesTo (changing (transformed transformation) self.old) result self.new }
     {
         let v = self.pop()?;
         let w = transform(alloc, transformation, &v)?;
@@ -110,7 +110,7 @@ impl Run {
     }
 
     fn concat(&mut self, alloc: Global) -> Result<(), Stop>
-        ensures { Comes (joining sum_of self.old) result self.new }
+        ensures { ComesTo (joining sum_of self.old) result self.new }
     {
         let back = self.pop()?;
         let front = self.pop()?;
@@ -119,7 +119,7 @@ impl Run {
     }
 
     fn push_argument(&mut self) -> Result<(), Stop>
-        ensures { Comes (pushing_argument self.old) result self.new }
+        ensures { ComesTo (pushing_argument self.old) result self.new }
     {
         let v = self.pop()?;
         self.arguments.push(v)?;
@@ -127,7 +127,7 @@ impl Run {
     }
 
     fn binary(&mut self, alloc: Global, op: BinOp) -> Result<(), Stop>
-        ensures { Comes (joining (binary_value op) self.old) result self.new }
+        ensures { ComesTo (joining (binary_value op) self.old) result self.new }
     {
         let y = self.pop()?;
         let x = self.pop()?;
@@ -136,7 +136,7 @@ impl Run {
     }
 
     fn negate(&mut self, alloc: Global) -> Result<(), Stop>
-        ensures { Comes (changing negated self.old) result self.new }
+        ensures { ComesTo (changing negated self.old) result self.new }
     {
         let v = self.pop()?;
         let w = negative(alloc, v)?;
@@ -144,21 +144,21 @@ impl Run {
     }
 
     fn not(&mut self) -> Result<(), Stop>
-        ensures { Comes (changing (λ v. bit (not (is_true v))) self.old) result self.new }
+        ensures { ComesTo (changing (λ v. bit (not (is_true v))) self.old) result self.new }
     {
         let v = self.pop()?;
         self.put(bit_value(!truth(&v)))
     }
 
     fn to_bool(&mut self) -> Result<(), Stop>
-        ensures { Comes (changing (λ v. bit (is_true v)) self.old) result self.new }
+        ensures { ComesTo (changing (λ v. bit (is_true v)) self.old) result self.new }
     {
         let v = self.pop()?;
         self.put(bit_value(truth(&v)))
     }
 
     fn matches(&mut self, alloc: Global, number: u32, matchers: &mut Matchers) -> Result<(), Stop>
-        ensures value { Comes (changing (λ v. bit (matched (slice_get matchers.old number) v)) self.old) result self.new }
+        ensures value { ComesTo (changing (λ v. bit (matched (slice_get matchers.old number) v)) self.old) result self.new }
         ensures same { matchers.new ≡ matchers.old }
     {
         let v = self.pop()?;
@@ -167,20 +167,20 @@ impl Run {
     }
 
     fn forget(&mut self) -> Result<(), Stop>
-        ensures { Comes (on_top self.old.stack self.old (λ v. moved)) result self.new }
+        ensures { ComesTo (on_top self.old.stack self.old (λ v. moved)) result self.new }
     {
         self.pop()?;
         Ok(())
     }
 
     fn push_copy(&mut self, alloc: Global, v: &Val) -> Result<(), Stop>
-        ensures { Comes (moved (put v.now self.old)) result self.new }
+        ensures { ComesTo (moved (put v.now self.old)) result self.new }
     {
         let v = v.copy(alloc)?;
         self.put(v)
     }
 
-    /// What an instruction does, where the run's place is behind it.
+    /// What an instruction does, where the run's place is after it.
     fn act(
         &mut self,
         alloc: Global,
@@ -189,7 +189,7 @@ impl Run {
         matchers: &mut Matchers,
     ) -> Result<(), Stop>
         requires { self.old.pc < 2 ^ 63 }
-        ensures does { Comes (act (with_patterns matchers.old loaded.now) instr.now self.old) result self.new }
+        ensures does { ComesTo (act (with_patterns matchers.old loaded.now) instr.now self.old) result self.new }
         ensures same { matchers.new ≡ matchers.old }
     {
         match instr {
@@ -239,7 +239,7 @@ impl Run {
         loaded: &Loaded,
         matchers: &mut Matchers,
     ) -> Result<(), Stop>
-        ensures step { Comes (step_of (with_patterns matchers.old loaded.now) self.old) result self.new }
+        ensures step { ComesTo (step_of (with_patterns matchers.old loaded.now) self.old) result self.new }
         ensures depth { self.old.calls_left < 2 ^ 32 }
         ensures same { matchers.new ≡ matchers.old }
     {

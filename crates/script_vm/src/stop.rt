@@ -1,4 +1,4 @@
-//! Why a run stops behind an instruction.
+//! Why a run stops after an instruction.
 
 use std::alloc::AllocError;
 

@@ -16,9 +16,9 @@ use Rattle.sip_build.specs.Parts.{part, field_text, edited_vias, routes, uri_of}
 use Rattle.sip_build.specs.Reply.{reply_tag, reply_to_field}
 use Rattle.sip_build.specs.Hop.{hop_request}
 use Rattle.msg_edits.specs.Writing.{IsWritten}
-use Rattle.sip_build.specs.Writing.{fields_text, pieces_text, joined_text, answer_to, to_text}
+use Rattle.sip_build.specs.Writing.{fields_text, pieces_text, joined_text, response_to, to_text}
 
--- the pieces of an answer
+-- the pieces of a response
 answer_pieces : (sip code gap reason crlf vias from front mark token back call cseq last : List ℕ) → ((sip ++ (code ++ gap)) ++ (reason ++ (crlf ++ []))) ++ (vias ++ (from ++ (front ++ (mark ++ (token ++ (back ++ (call ++ (cseq ++ (last ++ []))))))))) ≡ (sip ++ (code ++ (gap ++ (reason ++ crlf)))) ++ (vias ++ (from ++ ((front ++ (mark ++ (token ++ back))) ++ (call ++ (cseq ++ last)))))
 answer_pieces sip code gap reason crlf vias from front mark token back call cseq last = simp (append_assoc, append-nil)
 
@@ -28,8 +28,8 @@ pub answered : (j : Joined) {old new : List ℕ} {result : Result ℕ TooLong} (
     → fields_text j ≡ edited_vias r.b.now (stamp r.via.now source) r.fields.now
     → pieces_text j.back.now ≡ field_text r.b.now (first kind.From r.fields.now) ++ (to.front.now ++ (to.mark.now ++ (to.token.now ++ (to.back.now ++ (field_text r.b.now (first kind.CallId r.fields.now) ++ (field_text r.b.now (first kind.CSeq r.fields.now) ++ (codes "Content-Length: 0\r\n\r\n" ++ [])))))))
     → to_text to ≡ reply_to_field r.b.now (first kind.To r.fields.now) r.to code (reply_tag r.b.now r.via.now.branch)
-    → IsWritten (answer_to r source code reason) old new result
-unfolding joined_text answer_to
+    → IsWritten (response_to r source code reason) old new result
+unfolding joined_text response_to
 answered j {old} {new} {result} r source code reason to fit front fields back tag =
     let vias = edited_vias r.b.now (stamp r.via.now source) r.fields.now in
     let from = field_text r.b.now (first kind.From r.fields.now) in

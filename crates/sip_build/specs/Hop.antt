@@ -21,7 +21,7 @@ hop_request method b m to =
 
 -- To is that of the response
 unfoldable pub ack_text : List ℕ → Message → List ℕ → Message → List ℕ
-ack_text b m answer am = hop_request (codes "ACK") b m (field_text answer (first kind.To am.head.fields.items))
+ack_text b m response am = hop_request (codes "ACK") b m (field_text response (first kind.To am.head.fields.items))
 
 -- To is that of the request
 unfoldable pub cancel_text : List ℕ → Message → List ℕ

@@ -67,8 +67,8 @@ pub record RequestLies (r : Request) : Type 0 where
   pub branch : IfSome r.via.now.branch (IsWithin r.b.now)
 
 -- its response
-unfoldable pub answer_to : Request → Addr → ℕ → List ℕ → List ℕ
-answer_to r source code reason = answer r.b.now r.fields.now r.via.now r.to source code reason
+unfoldable pub response_to : Request → Addr → ℕ → List ℕ → List ℕ
+response_to r source code reason = answer r.b.now r.fields.now r.via.now r.to source code reason
 
 abbrev pub to_text : ToField → List ℕ
 to_text t = t.front.now ++ (t.mark.now ++ (t.token.now ++ t.back.now))

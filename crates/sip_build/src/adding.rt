@@ -1,7 +1,6 @@
 //! One field more in a written text.
 ghost use Rattle.std.specs.Prelude.{◌≡◌, ◌≤◌, ◌<◌, ◌+◌, ◌++◌, drop, length, take, IfSome, IsTrue};
 ghost use Rattle.sip_words.specs.Spans.{IsWithin};
-ghost use Rattle.sip_scan.specs.Lines.{is_break, skipped, is_crlf};
 ghost use Rattle.sip_msg.specs.Basis.{first_from};
 ghost use Rattle.msg_edits.specs.Writing.{IsWritten};
 ghost use Rattle.sip_build.specs.Parts.{part};
@@ -9,7 +8,7 @@ ghost use Rattle.sip_build.specs.WithField.{ends_before_empty, empty_line, with_
 
 use msg_edits::TooLong;
 use sip_msg::Span;
-use sip_words::stands;
+use sip_scan::{is_crlf, skipped};
 
 /// Puts the bytes of `b` at `field` before the first empty line of the first `len` bytes of `out`, behind their
 /// leading CR and LF, and says how long the text is then. A text without an empty line stays as it is. Where the text
@@ -31,37 +30,6 @@ pub fn append_field(out: &mut [u8], len: usize, b: &[u8], field: Span) -> Result
     out.copy_within(place..len, place + bytes.len());
     out[place..place + bytes.len()].copy_from_slice(bytes);
     Ok(end)
-}
-
-/// Whether the byte is CR or LF.
-fn is_break(b: u8) -> bool
-    ensures { result ≡ is_break b }
-{
-    matches!(b, b'\r' | b'\n')
-}
-
-/// How many bytes of CR and LF stand in front.
-#[tactic(auto, using(sip_scan::proofs::Runs::skip_stops, sip_scan::proofs::Runs::skip_goes, sip_scan::proofs::Runs::skip_all, sip_scan::proofs::Runs::skip_starts))]
-fn skipped(text: &[u8]) -> usize
-    ensures value { result ≡ skipped text.now }
-    ensures within { result ≤ length text.now }
-{
-    for at in 0..text.len() {
-        if !is_break(text[at]) {
-            return at;
-        }
-    }
-    text.len()
-}
-
-/// Whether a CRLF stands at `at`.
-#[tactic(auto, unfolding(sip_scan::specs::Lines::is_crlf))]
-fn is_crlf(text: &[u8], at: usize) -> bool
-    requires { at < usize.MAX }
-    ensures value { result ≡ is_crlf text.now at }
-    ensures within { IsTrue result → at + 2 ≤ length text.now }
-{
-    stands(text, at, b'\r') && stands(text, at + 1, b'\n')
 }
 
 /// Whether the CRLF at `at` ends a line, and the line behind it is empty.

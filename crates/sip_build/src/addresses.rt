@@ -44,7 +44,7 @@ fn address_behind(via: &Via, from: Addr) -> Addr
 }
 
 /// Adds a number up to 65535 to a short text.
-pub fn push_number<const N: usize>(text: &mut ArrayString<N>, number: u16)
+pub fn add_number<const N: usize>(text: &mut ArrayString<N>, number: u16)
     requires { array_string_len text.old + 5 ≤ N }
     ensures bytes { text.new.bytes ≡ text.old.bytes ++ decimal number }
     ensures len { array_string_len text.new ≤ array_string_len text.old + 5 }
@@ -53,7 +53,7 @@ pub fn push_number<const N: usize>(text: &mut ArrayString<N>, number: u16)
 }
 
 /// Adds a number up to 255 to a short text.
-pub fn push_octet<const N: usize>(text: &mut ArrayString<N>, number: u8)
+pub fn add_octet<const N: usize>(text: &mut ArrayString<N>, number: u8)
     requires { array_string_len text.old + 3 ≤ N }
     ensures bytes { text.new.bytes ≡ text.old.bytes ++ decimal number }
     ensures len { array_string_len text.new ≤ array_string_len text.old + 3 }
@@ -62,17 +62,17 @@ pub fn push_octet<const N: usize>(text: &mut ArrayString<N>, number: u8)
 }
 
 /// Adds four numbers with dots between them to a short text.
-pub fn push_ip<const N: usize>(text: &mut ArrayString<N>, ip: u32)
+pub fn add_ip<const N: usize>(text: &mut ArrayString<N>, ip: u32)
     requires { array_string_len text.old + 15 ≤ N }
     ensures bytes { text.new.bytes ≡ text.old.bytes ++ dotted ip }
     ensures len { array_string_len text.new ≤ array_string_len text.old + 15 }
 {
     let [a, b, c, d] = ip.to_be_bytes();
-    push_octet(text, a);
+    add_octet(text, a);
     text.push_str(".");
-    push_octet(text, b);
+    add_octet(text, b);
     text.push_str(".");
-    push_octet(text, c);
+    add_octet(text, c);
     text.push_str(".");
-    push_octet(text, d);
+    add_octet(text, d);
 }

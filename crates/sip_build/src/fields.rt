@@ -17,7 +17,7 @@ pub fn is_of(field: &HeaderSpan, kind: Kind) -> bool
 
 /// The first field of a kind of the message `b`.
 #[tactic(auto, using(crate::proofs::Found::found_lies))]
-pub fn first(b: &[u8], fields: &[HeaderSpan], kind: Kind) -> Option<HeaderSpan>
+pub fn first_field(b: &[u8], fields: &[HeaderSpan], kind: Kind) -> Option<HeaderSpan>
     requires { FieldsLie b.now fields.now }
     ensures value { result ≡ first kind fields.now }
     ensures lies { IfSome result (FieldLies b.now) }
@@ -37,7 +37,7 @@ pub fn field_text<'a>(b: &'a [u8], fields: &[HeaderSpan], kind: Kind) -> &'a [u8
     requires { FieldsLie b.now fields.now }
     ensures { result.now ≡ field_text b.now (first kind fields.now) }
 {
-    match first(b, fields, kind) {
+    match first_field(b, fields, kind) {
         Some(field) => &b[field.whole.from..field.whole.to],
         None => &[],
     }

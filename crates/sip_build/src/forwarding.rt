@@ -15,8 +15,8 @@ ghost use Rattle.sip_build.specs.Stateless.{token_of, stateless_ack_text};
 ghost use Rattle.msg_edits.specs.Writing.{IsWritten, SameEdits};
 ghost use Rattle.sip_build.specs.Writing.{FieldsLie, edits_of_hops};
 
-use crate::addresses::{push_ip, push_number, push_octet};
-use crate::fields::{first, uri_of};
+use crate::addresses::{add_ip, add_number, add_octet};
+use crate::fields::{first_field, uri_of};
 use crate::responses::without_cookie;
 use crate::stamp::Stamp;
 use arrayvec::ArrayString;
@@ -152,7 +152,7 @@ fn via_place(b: &[u8], m: &Message) -> usize
     requires line { m.now.head.start.to + 4 ≤ length b.now }
     ensures { result ≡ place_of (first kind.Via m.now.head.fields.items) (m.now.head.start.to + 2) }
 {
-    match first(b, &m.head.fields, Kind::Via) {
+    match first_field(b, &m.head.fields, Kind::Via) {
         Some(field) => field.whole.from,
         None => m.head.start.to + 2,
     }
@@ -165,9 +165,9 @@ fn via_front(listen: Addr, mark: &str) -> ArrayString<56>
 {
     let mut text = ArrayString::new();
     text.push_str("Via: SIP/2.0/UDP ");
-    push_ip(&mut text, listen.ip);
+    add_ip(&mut text, listen.ip);
     text.push_str(":");
-    push_number(&mut text, listen.port);
+    add_number(&mut text, listen.port);
     text.push_str(";branch=");
     text.push_str(mark);
     text
@@ -188,7 +188,7 @@ impl Hops {
         requires hops { IfSome m.now.max_forwards (λ hops. 0 < hops) }
         ensures { SameEdits (edits_of_hops result) (with_hops b.now (first kind.MaxForwards m.now.head.fields.items) m.now.max_forwards m.now.head.body absent_hops) }
     {
-        match first(b, &m.head.fields, Kind::MaxForwards) {
+        match first_field(b, &m.head.fields, Kind::MaxForwards) {
             Some(field) => Hops {
                 at: number_in(&b[..field.value.to], field.value.from),
                 text: number_text(one_less(m.max_forwards)),
@@ -233,7 +233,7 @@ fn number_text(number: u8) -> ArrayString<19>
     ensures { result.bytes ≡ decimal number }
 {
     let mut text = ArrayString::new();
-    push_octet(&mut text, number);
+    add_octet(&mut text, number);
     text
 }
 
@@ -243,7 +243,7 @@ fn hops_line(number: u8) -> ArrayString<19>
 {
     let mut text = ArrayString::new();
     text.push_str("Max-Forwards: ");
-    push_octet(&mut text, number);
+    add_octet(&mut text, number);
     text.push_str("\r\n");
     text
 }

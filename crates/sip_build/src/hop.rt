@@ -22,15 +22,15 @@ const UNCHANGED: Change<'static> = Change::Cut(Span { from: 0, to: 0 });
 pub fn ack(
     b: &[u8],
     m: &Message,
-    answer: &[u8],
+    response: &[u8],
     am: &Message,
     out: &mut [u8],
 ) -> Result<usize, TooLong>
     requires request { Reads b.now m.now }
-    requires answer { Reads answer.now am.now }
-    ensures { IsWritten (ack_text b.now m.now answer.now am.now) out.old out.new result }
+    requires response { Reads response.now am.now }
+    ensures { IsWritten (ack_text b.now m.now response.now am.now) out.old out.new result }
 {
-    let to = field_text(answer, &am.head.fields, Kind::To);
+    let to = field_text(response, &am.head.fields, Kind::To);
     hop_request("ACK", b, m, to, out)
 }
 
@@ -60,7 +60,7 @@ fn hop_request(
 {
     let uri = uri_of(m.start);
     let fields = m.head.fields.as_slice();
-    let cseq = cseq_line(m.cseq.number, method);
+    let cseq = cseq_text(m.cseq.number, method);
     let joined = Joined {
         front: &[
             method.as_bytes(),
@@ -86,7 +86,7 @@ fn hop_request(
 }
 
 /// The line CSeq.
-fn cseq_line(number: u32, method: &str) -> ArrayString<25>
+fn cseq_text(number: u32, method: &str) -> ArrayString<25>
     requires { length method.now ≤ 6 }
     ensures { result.bytes ≡ codes "CSeq: " ++ (decimal number ++ (codes " " ++ (method.now ++ codes "\r\n"))) }
 {

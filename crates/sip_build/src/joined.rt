@@ -10,6 +10,7 @@ use crate::fields::is_of;
 use msg_edits::{Change, TooLong, apply_after};
 use sip_msg::Span;
 use sip_scan::{HeaderSpan, Kind};
+use sip_words::put;
 
 /// Which fields of a message a text takes over.
 #[derive(Clone, Copy)]
@@ -43,7 +44,7 @@ impl Joined<'_, '_, '_, '_, '_> {
         Ok(self.write(out))
     }
 
-    /// Writes as much of the text as fits, in whole pieces, and answers the length of all of it, held at the end of
+    /// Writes as much of the text as fits, in whole pieces, and returns the length of all of it, held at the end of
     /// the type.
     fn write(&self, out: &mut [u8]) -> usize
         requires { FieldsLie self.now.b.now self.now.fields.now }
@@ -90,17 +91,6 @@ fn put_all(out: &mut [u8], len: usize, pieces: &[&[u8]]) -> usize
     end
 }
 
-/// Writes `piece` behind the first `len` bytes where it fits, and answers the length with it.
-fn put(out: &mut [u8], len: usize, piece: &[u8]) -> usize
-    ensures { (room text : List ℕ) → IsWrittenSoFar room out.old len text → IsWrittenSoFar room out.new result (text ++ piece.now) }
-{
-    let end = len.saturating_add(piece.len());
-    if end <= out.len() {
-        out[len..end].copy_from_slice(piece);
-    }
-    end
-}
-
 /// Writes what the part of `b` at `at` becomes after changes of `b`, without what is inserted at its end.
 fn put_part(out: &mut [u8], len: usize, b: &[u8], at: Span, changes: &[Change<'_>; 3]) -> usize
     requires { IsWithin b.now at }
@@ -111,7 +101,7 @@ fn put_part(out: &mut [u8], len: usize, b: &[u8], at: Span, changes: &[Change<'_
     put_edited(out, len, bytes, &moved)
 }
 
-/// Writes `bytes` after changes behind the first `len` bytes where they fit, and answers the length with them.
+/// Writes `bytes` after changes behind the first `len` bytes where they fit, and returns the length with them.
 fn put_edited(out: &mut [u8], len: usize, bytes: &[u8], changes: &[Change<'_>; 3]) -> usize
     ensures { (room text : List ℕ) → IsWrittenSoFar room out.old len text → IsWrittenSoFar room out.new result (text ++ edited bytes.now (map edit_of changes.now)) }
 {
@@ -122,7 +112,7 @@ fn put_edited(out: &mut [u8], len: usize, bytes: &[u8], changes: &[Change<'_>; 3
     }
 }
 
-/// Writes `bytes` after changes where they fit, and answers their length, held at the end of the type.
+/// Writes `bytes` after changes where they fit, and returns their length, held at the end of the type.
 fn write_edited(bytes: &[u8], changes: &[Change<'_>; 3], out: &mut [u8]) -> usize
     ensures { IsWrittenSoFar out.old out.new result (edited bytes.now (map edit_of changes.now)) }
 {

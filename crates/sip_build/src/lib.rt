@@ -11,8 +11,9 @@
 //!   [`relayed_reply`] the response that goes back.
 //! - [`append_field`] puts a field into a written text.
 //! - [`ack`] and [`cancel`] write the requests that the proxy makes for a request that it sent.
-//! - [`laws`] has what the layers above use: where a reply goes, that a request reads under the proxy's line Via, and
-//!   what a relayed reply leaves away.
+//! - The laws are what the layers above use: where a reply goes ([`a_reply_goes_back`]), that a request reads under the
+//!   proxy's line Via ([`a_message_reads_under_the_line`]), and what a relayed reply leaves away
+//!   ([`the_top_via_is_taken_away`]).
 #![tactic(auto)]
 
 mod adding;
@@ -21,7 +22,7 @@ mod fields;
 mod forwarding;
 mod hop;
 mod joined;
-pub mod laws;
+mod laws;
 mod relaying;
 mod responses;
 mod stamp;
@@ -32,6 +33,11 @@ pub use adding::append_field;
 pub use addresses::{basis_reply_to, reply_to};
 pub use forwarding::{forwarded, stateless_ack};
 pub use hop::{ack, cancel};
+pub use laws::{
+    a_message_reads_under_the_line, a_reply_goes_back, own_via_reads, the_fields_below_stand,
+    the_line_via_is_put_in, the_top_via_is_taken_away, the_value_below_reads,
+    what_is_forwarded_reads,
+};
 pub use msg_edits::TooLong;
 pub use relaying::relayed_reply;
 pub use responses::{basis_reply, reply};

@@ -6,7 +6,7 @@ ghost use Rattle.sip_build.specs.Relayed.{without_top_via, relayed_text};
 ghost use Rattle.msg_edits.specs.Writing.{IsWritten, SameEdits};
 ghost use Rattle.sip_build.specs.Writing.{FieldsLie};
 
-use crate::fields::first;
+use crate::fields::first_field;
 use msg_edits::{Change, Edit, TooLong, apply_after};
 use sip_msg::{Message, Span};
 use sip_scan::Kind;
@@ -39,7 +39,7 @@ fn top_via(b: &[u8], m: &Message) -> Span
             to: next,
         };
     }
-    match first(b, &m.head.fields, Kind::Via) {
+    match first_field(b, &m.head.fields, Kind::Via) {
         Some(field) => field.whole,
         None => Span::default(),
     }

@@ -8,10 +8,10 @@ ghost use Rattle.sip_msg.specs.Table.{Reads};
 ghost use Rattle.sip_msg.specs.Values.{name_addr_of};
 ghost use Rattle.sip_build.specs.Reply.{without_cookie, gives_tag, reply_tag, reply_to_field, reply_text, basis_reply_text};
 ghost use Rattle.msg_edits.specs.Writing.{IsWritten};
-ghost use Rattle.sip_build.specs.Writing.{FieldsLie, EndsIn, RequestLies, answer_to, to_text};
+ghost use Rattle.sip_build.specs.Writing.{FieldsLie, EndsIn, RequestLies, response_to, to_text};
 
-use crate::addresses::push_number;
-use crate::fields::{field_text, first};
+use crate::addresses::add_number;
+use crate::fields::{field_text, first_field};
 use crate::joined::{Joined, Taken};
 use crate::stamp::Stamp;
 use arrayvec::ArrayString;
@@ -44,7 +44,7 @@ struct ToField<'a> {
 /// Writes the response with this code and reason to the request `m`, which came from `from`: the status line; all Via
 /// fields of the stamped request; From; To, with a tag where it has none and the code isn't 100; Call-ID; CSeq;
 /// `Content-Length: 0`; the empty line.
-#[tactic(auto, unfolding(crate::specs::Reply::reply_text, crate::specs::Writing::answer_to), using(crate::proofs::Readings::fields_lie, crate::proofs::Readings::branch_within, crate::proofs::Readings::to_ends))]
+#[tactic(auto, unfolding(crate::specs::Reply::reply_text, crate::specs::Writing::response_to), using(crate::proofs::Readings::fields_lie, crate::proofs::Readings::branch_within, crate::proofs::Readings::to_ends))]
 pub fn reply(
     b: &[u8],
     m: &Message,
@@ -68,7 +68,7 @@ pub fn reply(
 /// Writes the response with this code and reason to a malformed request, which came from `from`: the same, with those
 /// of the fields that are present. Of From, To, Call-ID and CSeq the first field of each is written. To is given a
 /// tag only where it reads and has none.
-#[tactic(auto, unfolding(crate::specs::Reply::basis_reply_text, crate::specs::Writing::answer_to), using(crate::proofs::Readings::basis_fields_lie, crate::proofs::Readings::basis_branch_within))]
+#[tactic(auto, unfolding(crate::specs::Reply::basis_reply_text, crate::specs::Writing::response_to), using(crate::proofs::Readings::basis_fields_lie, crate::proofs::Readings::basis_branch_within))]
 pub fn basis_reply(
     b: &[u8],
     basis: &Basis,
@@ -93,7 +93,7 @@ impl<'a> Request<'a> {
     /// Writes the response.
     fn write(&self, from: Addr, code: u16, reason: &[u8], out: &mut [u8]) -> Result<usize, TooLong>
         requires { RequestLies self.now }
-        ensures { IsWritten (answer_to self.now from code reason.now) out.old out.new result }
+        ensures { IsWritten (response_to self.now from code reason.now) out.old out.new result }
     {
         let status = status_front(code);
         let stamp = Stamp::of(self.via, from);
@@ -123,7 +123,7 @@ impl<'a> Request<'a> {
         requires { RequestLies self.now }
         ensures { to_text result ≡ reply_to_field self.now.b.now (first kind.To self.now.fields.now) self.now.to code (reply_tag self.now.b.now self.now.via.now.branch) }
     {
-        let Some(field) = first(self.b, self.fields, Kind::To) else {
+        let Some(field) = first_field(self.b, self.fields, Kind::To) else {
             return whole_field(&[]);
         };
         match self.to {
@@ -186,7 +186,7 @@ fn read_to(b: &[u8], fields: &[HeaderSpan]) -> Option<NameAddr>
     ensures value { result ≡ name_addr_of kind.To b.now fields.now }
     ensures lies { IfSome result (λ n. IfSome (first kind.To fields.now) (EndsIn n)) }
 {
-    let field = first(b, fields, Kind::To)?;
+    let field = first_field(b, fields, Kind::To)?;
     let value = read_name_addr(b, field.value).ok()?;
     if value.next.is_some() {
         return None;
@@ -200,7 +200,7 @@ fn status_front(code: u16) -> ArrayString<14>
 {
     let mut text = ArrayString::new();
     text.push_str("SIP/2.0 ");
-    push_number(&mut text, code);
+    add_number(&mut text, code);
     text.push_str(" ");
     text
 }

@@ -6,7 +6,7 @@ ghost use Rattle.sip_build.specs.Stamp.{without_received, with_port, is_source, 
 ghost use Rattle.msg_edits.specs.Writing.{SameEdits};
 ghost use Rattle.sip_build.specs.Writing.{edits_of_stamp};
 
-use crate::addresses::{push_ip, push_number};
+use crate::addresses::{add_ip, add_number};
 use arrayvec::ArrayString;
 use msg_edits::Change;
 use outside_ports::Addr;
@@ -93,7 +93,7 @@ fn port_of(rport: Rport, port: u16) -> (usize, ArrayString<6>)
         return (0, text);
     };
     text.push_str("=");
-    push_number(&mut text, port);
+    add_number(&mut text, port);
     (word.to, text)
 }
 
@@ -121,7 +121,7 @@ fn address_of(via: &Via, ip: u32) -> ArrayString<25>
     let mut text = ArrayString::new();
     if wants_received(via, ip) {
         text.push_str(";received=");
-        push_ip(&mut text, ip);
+        add_ip(&mut text, ip);
     }
     text
 }

@@ -1,5 +1,5 @@
 //! Texts worked out by hand from the RFCs.
-use crate::fields::{field_text, first};
+use crate::fields::{field_text, first_field};
 use crate::{
     TooLong, ack, append_field, basis_reply, basis_reply_to, cancel, forwarded, relayed_reply,
     reply, reply_to, stateless_ack,
@@ -37,7 +37,7 @@ fn wrote(
 }
 
 /// The reply to `request` from 192.0.2.1 with this source port.
-fn answers(
+fn responds(
     rt: &impl Abort,
     shows: &str,
     port: u16,
@@ -58,7 +58,7 @@ fn answers(
 
 #[test]
 fn replies(rt: HostRuntime) {
-    answers(
+    responds(
         &rt,
         "one OPTIONS is answered: rport without a value",
         5062,
@@ -67,7 +67,7 @@ fn replies(rt: HostRuntime) {
         b"OK",
         b"SIP/2.0 200 OK\r\nVia: SIP/2.0/UDP 192.0.2.1:5062;rport=5062;branch=z9hG4bK1;received=192.0.2.1\r\nFrom: <sip:u@example.com>;tag=1\r\nTo: <sip:a@127.0.0.1>;tag=rt1\r\nCall-ID: c1\r\nCSeq: 1 OPTIONS\r\nContent-Length: 0\r\n\r\n",
     );
-    answers(
+    responds(
         &rt,
         "compact names, folds and a second value are kept",
         5070,
@@ -76,7 +76,7 @@ fn replies(rt: HostRuntime) {
         b"OK",
         b"SIP/2.0 200 OK\r\nv: SIP/2.0/UDP 192.0.2.1:5070;branch=z9hG4bKx,\r\n SIP/2.0/UDP 10.0.0.1;branch=z9hG4bKy\r\nf: \"U\" <sip:u@h>;tag=2\r\nt: sip:a@127.0.0.1;tag=rtx\r\ni: c3\r\nCSeq: 7 OPTIONS\r\nContent-Length: 0\r\n\r\n",
     );
-    answers(
+    responds(
         &rt,
         "a stamp stands at the end of the first value, before its comma",
         5070,
@@ -85,7 +85,7 @@ fn replies(rt: HostRuntime) {
         b"Not Found",
         b"SIP/2.0 404 Not Found\r\nVia: SIP/2.0/UDP h;rport=5070;branch=z9hG4bKx;received=192.0.2.1 , SIP/2.0/UDP i\r\nFrom: <sip:u@h>;tag=2\r\nTo: <sip:a@h>;tag=rtx\r\nCall-ID: c\r\nCSeq: 7 OPTIONS\r\nContent-Length: 0\r\n\r\n",
     );
-    answers(
+    responds(
         &rt,
         "only the first Via field is stamped, and To keeps its tag",
         5060,
@@ -94,7 +94,7 @@ fn replies(rt: HostRuntime) {
         b"OK",
         b"SIP/2.0 200 OK\r\nVia: SIP/2.0/UDP h;branch=z9hG4bKx;received=192.0.2.1\r\nVia: SIP/2.0/UDP i;rport;received=1.2.3.4\r\nFrom: <sip:u@h>\r\nTo: <sip:a@h>;tag=9\r\nCall-ID: c\r\nCSeq: 7 OPTIONS\r\nContent-Length: 0\r\n\r\n",
     );
-    answers(
+    responds(
         &rt,
         "an old received in the middle is cut",
         5080,
@@ -103,7 +103,7 @@ fn replies(rt: HostRuntime) {
         b"Trying",
         b"SIP/2.0 100 Trying\r\nVia: SIP/2.0/UDP 192.0.2.1;rport=5080 ;branch=z9hG4bKx;received=192.0.2.1\r\nFrom: <sip:u@h>\r\nTo: <sip:a@h>\r\nCall-ID: c\r\nCSeq: 7 OPTIONS\r\nContent-Length: 0\r\n\r\n",
     );
-    answers(
+    responds(
         &rt,
         "an rport with a value asks for nothing, and the host is the source",
         5080,
@@ -115,7 +115,7 @@ fn replies(rt: HostRuntime) {
 }
 
 /// The reply to a malformed request from 192.0.2.1:5060.
-fn answers_basis(
+fn responds_by_basis(
     rt: &impl Abort,
     shows: &str,
     request: &'static [u8],
@@ -135,7 +135,7 @@ fn answers_basis(
 
 #[test]
 fn replies_to_malformed_requests(rt: HostRuntime) {
-    answers_basis(
+    responds_by_basis(
         &rt,
         "no branch, and most fields are absent",
         b"INVITE sip:a@h SIP/3.0\r\nVia: SIP/2.0/UDP 192.0.2.1\r\nTo: <sip:a@h>\r\n\r\n",
@@ -143,7 +143,7 @@ fn replies_to_malformed_requests(rt: HostRuntime) {
         b"Version Not Supported",
         b"SIP/2.0 505 Version Not Supported\r\nVia: SIP/2.0/UDP 192.0.2.1\r\nTo: <sip:a@h>;tag=rt\r\nContent-Length: 0\r\n\r\n",
     );
-    answers_basis(
+    responds_by_basis(
         &rt,
         "a branch without the cookie, and the first of two From fields",
         b"INVITE sip:a@h SIP/2.0\r\nf: <sip:1@h>\r\nVia: SIP/2.0/UDP h;branch=abc\r\nFrom: <sip:2@h>\r\nt: <sip:a@h>\r\nCSeq: x\r\n\r\n",
@@ -151,7 +151,7 @@ fn replies_to_malformed_requests(rt: HostRuntime) {
         b"Bad Request",
         b"SIP/2.0 400 Bad Request\r\nVia: SIP/2.0/UDP h;branch=abc;received=192.0.2.1\r\nf: <sip:1@h>\r\nt: <sip:a@h>;tag=rtabc\r\nCSeq: x\r\nContent-Length: 0\r\n\r\n",
     );
-    answers_basis(
+    responds_by_basis(
         &rt,
         "a To with two values doesn't read",
         b"INVITE sip:a@h SIP/2.0\r\nVia: SIP/2.0/UDP 192.0.2.1;branch=z9hG4bK5\r\nTo: <sip:a@h>, <sip:b@h>\r\nCall-ID: 1 2\r\n\r\n",
@@ -432,7 +432,7 @@ fn acks_and_cancels(rt: HostRuntime) {
     let result = ack(SENT, &m, BUSY, &am, &mut room);
     wrote(
         &rt,
-        "To of the answer",
+        "To of the response",
         &room,
         result,
         b"ACK sip:b@192.0.2.9 SIP/2.0\r\nVia: SIP/2.0/UDP 127.0.0.1:5060;branch=z9hG4bKrs0\r\nMax-Forwards: 70\r\nRoute: <sip:p1;lr>, <sip:p2>\r\nroute :\r\n <sip:p3>\r\nf: <sip:u@h>;tag=f\r\nt: <sip:b@h>;tag=t\r\nCall-ID: 6\r\nCSeq: 17 ACK\r\nContent-Length: 0\r\n\r\n",
@@ -495,7 +495,7 @@ fn finds(rt: &impl Abort, text: &'static [u8], kind: Kind, want: &'static [u8]) 
     match Message::read(text) {
         Ok(m) => {
             assert!(rt; field_text(text, &m.head.fields, kind) == want);
-            let found = first(text, &m.head.fields, kind);
+            let found = first_field(text, &m.head.fields, kind);
             assert!(rt; found.is_none() == want.is_empty());
             assert!(rt; found.is_none_or(|field| field.kind == kind));
         }

@@ -1,5 +1,5 @@
 -- The text of a branch of this proxy's own (RFC 3261, section 8.1.1.7).
-use Rattle.std.specs.Prelude.{◌≡◌, length, drop, ℕ, ◌^◌, ◌<◌, ◌≤◌, List, ◌∷◌, ◌++◌, codes}
+use Rattle.std.specs.Prelude.{ℕ, ◌^◌, ◌<◌, ◌≤◌, List, ◌∷◌, ◌++◌, codes}
 use Rattle.std.specs.Fmt.{decimal}
 use Rattle.std.specs.Int.{w32, to_be_bytes}
 use Rattle.hex.specs.Hex.{encode_lower}
@@ -22,8 +22,3 @@ pub record IsBranch (br : Branch) : Type 0 where
   pub slot : br.slot < 2 ^ 32
   pub generation : br.generation < 2 ^ 64
   pub b : br.b ≤ 11
-
--- the text stands at the front of what was this room, and has this length
-pub record HasWritten (room out text : List ℕ) (len : ℕ) : Type 0 where
-  pub count : len ≡ length text
-  pub bytes : out ≡ text ++ drop len room

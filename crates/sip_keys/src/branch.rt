@@ -2,12 +2,12 @@
 
 ghost use Rattle.std.specs.Prelude.{◌≡◌, ◌↔◌, IsTrue, ◌+◌, ◌^◌, ◌<◌, ◌≤◌, ◌++◌, List, ℕ, drop, length, Some, IfSome, IfNone};
 ghost use Rattle.std.specs.Fmt.{decimal};
-ghost use Rattle.sip_keys.specs.Branches.{branch_text, front_text, numbers_text, HasWritten, IsBranch};
+ghost use Rattle.sip_keys.specs.Branches.{branch_text, front_text, numbers_text, IsBranch};
 ghost use Rattle.sip_keys.specs.declared.branch.Branch.{Branch};
 
 use itoa::Buffer;
 use numerals::number;
-use sip_words::split_once;
+use sip_words::{put, split_once};
 
 /// The room that the text of a branch is given, in bytes.
 const ROOM: usize = 64;
@@ -24,18 +24,6 @@ pub struct Branch {
     pub generation: u64,
     /// The number of the branch in its transaction, 0 to 11.
     pub b: u8,
-}
-
-/// Puts the bytes into the room from `at` on; the place behind them.
-fn put(out: &mut [u8], at: usize, bytes: &[u8]) -> usize
-    requires room { at + length bytes.now ≤ length out.old }
-    ensures place { result ≡ at + length bytes.now }
-    ensures same_room { length out.new ≡ length out.old }
-    ensures written { (room text : List ℕ) → HasWritten room out.old text at → HasWritten room out.new (text ++ bytes.now) result }
-{
-    let end = at + bytes.len();
-    out[at..end].copy_from_slice(bytes);
-    end
 }
 
 /// What stands before the first dot: the cookie of RFC 3261, section 8.1.1.7, two letters of this proxy, and the epoch in

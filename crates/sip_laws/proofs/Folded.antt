@@ -152,7 +152,7 @@ units_of line ((w ∷ next) ∷ more) a c =
     let behind : (next ++ crlf) ++ lines more ≡ pieces r.units ++ crlf = append_assoc next crlf (lines more) ∙ r.text in
     units_line line _ a (record { units = Fold w ∷ r.units; are = (c.0.0, r.are); text = ap (λ (z : List ℕ). 13 ∷ 10 ∷ w ∷ z) behind })
 
-two_less : (x : List ℕ) → take (length (x ++ crlf) - 2) (x ++ crlf) ≡ x
+pub two_less : (x : List ℕ) → take (length (x ++ crlf) - 2) (x ++ crlf) ≡ x
 two_less x = take_at x crlf (length (x ++ crlf) - 2) (omega (arith, length-append x crlf))
 
 pub value_folded : (t : FieldTree) → IsFieldTree t → Folded (value_text t)

@@ -96,7 +96,7 @@ known b m r =
     record { tree = s.tree; is = k.is; text = k.text; head = k.head; fields = k.fields; stand = k.stand; via = k.via; whole = k.whole; number = k.number; method = k.method; hops = k.hops; tag = k.tag; end = k.end }
 
 -- a request line's method and URI
-start_spelled : (text : List ℕ) (i : ℕ) (s : Start) → start_at text i ≡ Some s → IsStartAt text i s
+pub start_spelled : (text : List ℕ) (i : ℕ) (s : Start) → start_at text i ≡ Some s → IsStartAt text i s
 unfolding start_at
 start_spelled text i s h = by_request (request_at text i) refl h
   where

@@ -243,7 +243,7 @@ if_between : (i j n : ℕ) (o : Option Span) → j ≤ n → IfSome o (Rattle.si
 if_between i j n None le h = tt
 if_between i j n (Some s) le h = (h.order, omega (arith, h.high, le))
 
-via_front : (x : List ℕ) (v : Via) (c : List ℕ) (n i : ℕ) (w : Via) → i ≤ length (take n c) → via_at (take n c) i ≡ Some w → SameVia x v (take n c) w × (part x v.whole ≡ part (take n c) w.whole) → SameVia x v c w × (part x v.whole ≡ part c w.whole)
+pub via_front : (x : List ℕ) (v : Via) (c : List ℕ) (n i : ℕ) (w : Via) → i ≤ length (take n c) → via_at (take n c) i ≡ Some w → SameVia x v (take n c) w × (part x v.whole ≡ part (take n c) w.whole) → SameVia x v c w × (part x v.whole ≡ part c w.whole)
 via_front x v c n i w le e both =
     let s = both.0 in
     let k = via_between (take n c) i w le e in

@@ -1,12 +1,12 @@
 -- The proxy's response to a request reads.
 use Rattle.std.proofs.Common.{◌≡◌, ◌≢◌, ℕ, zero, suc, ◌+◌, ◌<◌, ◌≤◌, ◌^◌, Bool, true, false, List, [], ◌∷◌, ◌++◌, length, take, drop, refl, sym, ap, ◌∙◌, subst, arith, append_assoc, length-append, Option, Some, None, inl, inr, option_map}
 use Rattle.std.specs.Prelude.{IfSome, codes, is_none, if◌then◌else◌, nat_eq}
-use Rattle.std.specs.List.{find, count_by, filter, flat_map, list_all, starts_with, AllByRecursion}
+use Rattle.std.specs.List.{find, count_by, list_all, starts_with, AllByRecursion}
 use Rattle.std.specs.Fmt.{decimal}
-use Rattle.std.proofs.lemmas.Bool.{cases_Bool, ne_eqb}
+use Rattle.std.proofs.lemmas.Bool.{cases_Bool}
 use Rattle.std.proofs.lemmas.Fmt.{decimal_nonempty}
 use Rattle.std.proofs.lemmas.Option.{same_Some, none-some, cond_some}
-use Rattle.std.proofs.lemmas.List.{append-nil, take_at, drop_at}
+use Rattle.std.proofs.lemmas.List.{append-nil, take_at}
 use Rattle.sip_words.specs.Bytes.{has, ◌and◌}
 use Rattle.sip_words.specs.Spans.{span}
 use Rattle.sip_words.specs.declared.Span.{Span}
@@ -20,29 +20,25 @@ use Rattle.sip_fields.specs.Via.{via_at}
 use Rattle.sip_fields.specs.ViaGrammar.{HasToken}
 use Rattle.sip_fields.specs.NameAddr.{name_addr_at}
 use Rattle.sip_fields.specs.Parts.{tail}
-use Rattle.sip_scan.specs.declared.Head.{Head}
 use Rattle.sip_scan.specs.declared.field.HeaderSpan.{HeaderSpan}
 use Rattle.sip_scan.specs.declared.field.Kind.{Kind}
 use Rattle.sip_scan.specs.declared.field.Kind.TheVariants as kind
 use Rattle.sip_scan.specs.Field.{kind_of, is_same_kind}
-use Rattle.sip_scan.specs.Grammar.{crlf, IsLine, FieldTree, field, IsFieldTree, field_place, fields, field_places, MessageTree, message, IsMessageTree}
-use Rattle.msg_edits.specs.declared.parts.Edit.{Edit}
-use Rattle.msg_edits.specs.Edited.{is_cut, inserted_at, edited_from}
+use Rattle.sip_scan.specs.Grammar.{crlf, IsLine, FieldTree, field, IsFieldTree, field_place, fields, MessageTree, message, IsMessageTree}
 use Rattle.sip_msg.specs.declared.message.Message.{Message}
 use Rattle.sip_msg.specs.declared.start.Start.{Start}
 use Rattle.sip_msg.specs.declared.start.Start.TheVariants.{Status}
-use Rattle.sip_msg.specs.Fields.{is_of, first, count}
-use Rattle.sip_msg.specs.Values.{whole_number, hops_at, name_addr_of, via_of}
+use Rattle.sip_msg.specs.Fields.{first, count}
+use Rattle.sip_msg.specs.Values.{whole_number, hops_at, name_addr_of}
 use Rattle.sip_msg.specs.Table.{Reads}
 use Rattle.outside_ports.specs.declared.port.Addr.{Addr}
-use Rattle.numerals.specs.Numerals.{dotted}
-use Rattle.sip_build.specs.Parts.{part, field_text, edited_field, edited_vias}
+use Rattle.sip_build.specs.Parts.{part, field_text, edited_vias}
 use Rattle.sip_build.specs.Reply.{answer, reply_text, without_cookie, reply_tag, gives_tag, tagged, reply_to_field}
 use Rattle.sip_build.specs.Reply as reply
-use Rattle.sip_build.specs.Stamp.{stamp, wants_received}
+use Rattle.sip_build.specs.Stamp.{stamp}
 use Rattle.sip_build.proofs.OwnVia.{decimal_digits}
-use Rattle.sip_build.proofs.Twins.{value_text, places_append}
-use Rattle.sip_build.proofs.Spelt.{Spelt, spelt, fields_from, before_fields, behind_fields, front_length, in_fields, fields_append}
+use Rattle.sip_build.proofs.Twins.{value_text}
+use Rattle.sip_build.proofs.Spelt.{Spelt, spelt, fields_append}
 use Rattle.sip_laws.specs.Sent.{bytes_at, SameVia, IsStatusLine, NoBareTag, IsReply}
 use Rattle.sip_laws.proofs.Folded.{Folded, value_folded, field_with, is_field_with, value_with, text_with, name_with}
 use Rattle.sip_laws.proofs.Shift.{tree_value, spelled, tag_says}
@@ -52,17 +48,16 @@ use Rattle.sip_laws.proofs.Reading.{tree_reads}
 use Rattle.sip_laws.proofs.Tags.{Tagged, pick, tally, keep, find_tagged, count_tagged, named_tagged, AllOf, all_of, find_past, count_past, named_all, at_found, at_named, all_append}
 use Rattle.sip_laws.proofs.Known.{KnownBy, known_by}
 use Rattle.sip_laws.proofs.Hops.{via_sym, via_then, size_field, is_size, no_list, filter_count, back_tags}
-use Rattle.sip_laws.proofs.Relaying.{named_here, find_behind, named_behind, none_named, found_is, some_count}
-use Rattle.sip_laws.proofs.StampedTree.{received_line}
-use Rattle.sip_laws.proofs.StampedField.{Stamps, stamps}
-use Rattle.sip_laws.proofs.After.{from_kept}
-use Rattle.sip_laws.proofs.StampedVia.{stamped_via}
+use Rattle.sip_laws.proofs.Relaying.{all_behind, find_behind, named_behind, some_count}
+use Rattle.sip_laws.proofs.Again.{made_count}
+use Rattle.sip_laws.proofs.Around.{around}
+use Rattle.sip_laws.proofs.StampedVias.{first_stamped, vias_text}
 use Rattle.sip_laws.proofs.Placed.{placed}
 use Rattle.sip_laws.proofs.TaggedTo.{front_of, tagged_value, to_spelt}
 use Rattle.sip_laws.proofs.Values.{token_byte}
 
 -- the tag of a response is a word
-all_tokens : (w : List ℕ) → list_all (has Token) w ≡ true → AllByRecursion (λ b. has Token b ≡ true) w
+pub all_tokens : (w : List ℕ) → list_all (has Token) w ≡ true → AllByRecursion (λ b. has Token b ≡ true) w
 all_tokens [] h = tt
 all_tokens (b ∷ w) h = elim (cases_Bool (has Token b)) [ inl y ↦ (y, all_tokens w (rw y at h)) | inr n ↦ absurd (cc (rw n at h)) ]
 
@@ -71,14 +66,14 @@ all_drop zero w a = a
 all_drop (suc n) [] a = tt
 all_drop (suc n) (b ∷ w) a = all_drop n w a.1
 
-without : (w : List ℕ) → AllByRecursion (λ b. has Token b ≡ true) w → AllByRecursion (λ b. has Token b ≡ true) (without_cookie w)
+pub without : (w : List ℕ) → AllByRecursion (λ b. has Token b ≡ true) w → AllByRecursion (λ b. has Token b ≡ true) (without_cookie w)
 without w a = elim (cases_Bool (starts_with nat_eq w (codes "z9hG4bK"))) [ inl y ↦ rw y (all_drop 7 w a) | inr n ↦ rw n a ]
 
 values_of : (w : List ℕ) → AllByRecursion (λ b. has Token b ≡ true) w → AllByRecursion (λ b. has Value b ≡ true) w
 values_of [] a = tt
 values_of (b ∷ w) a = (token_byte b a.0, values_of w a.1)
 
-token_of_tree : (o : Option ParamTree) (w : List ℕ) → IfSome o (λ p. HasToken p.value) → tree_value o ≡ Some w → list_all (has Token) w ≡ true
+pub token_of_tree : (o : Option ParamTree) (w : List ℕ) → IfSome o (λ p. HasToken p.value) → tree_value o ≡ Some w → list_all (has Token) w ≡ true
 token_of_tree None w h e = absurd (none-some w e)
 token_of_tree (Some p) w h e = by_value p.value h e
   where
@@ -197,37 +192,6 @@ old_to b m t code k off =
 reply_to : (b : List ℕ) (m : Message) (t : MessageTree) (code : ℕ) → Reads b m → KnownBy b m t → TagWord (reply_tag b m.via.branch) → ReplyTo b m code t.fields
 reply_to b m t code r k word = elim (cases_Bool (gives_tag code m.to)) [ inl y ↦ new_to b m t code r k word y | inr n ↦ old_to b m t code k n ]
 
--- the Via fields
-filter_front : (k : Kind) (xs ys : List HeaderSpan) → find (is_of k) xs ≡ None → filter (is_of k) (xs ++ ys) ≡ filter (is_of k) ys
-filter_front k [] ys e = refl
-filter_front k (x ∷ xs) ys e = elim (cases_Bool (is_of k x)) [ inl y ↦ absurd (none-some x (sym (rw y at e))) | inr n ↦ rw n (filter_front k xs ys (rw n at e)) ]
-
-along : (pre one others rest : List ℕ) → pre ++ ((one ++ others) ++ rest) ≡ (pre ++ one) ++ (others ++ rest)
-along pre one others rest = simp append_assoc
-
-beside : (pre one others rest : List ℕ) → pre ++ ((one ++ others) ++ rest) ≡ pre ++ (one ++ (others ++ rest))
-beside pre one others rest = simp append_assoc
-
-part_of : (b pre rest : List ℕ) (j : ℕ) (t : FieldTree) → j ≡ length pre → b ≡ pre ++ (field t ++ rest) → part b (field_place j t).whole ≡ field t
-part_of b pre rest j t n e = part_is b j (field t) rest (ap (λ (x : List ℕ). drop j x) e ∙ drop_at pre (field t ++ rest) j (sym n))
-
-later_vias : (b : List ℕ) (edits : List Edit) (pre last : List ℕ) (j : ℕ) (ts : List FieldTree) → j ≡ length pre → b ≡ pre ++ (fields ts ++ last) → ((k : ℕ) → j ≤ k → is_cut edits k ≡ false) → ((k : ℕ) → j ≤ k → inserted_at edits k ≡ []) → flat_map (edited_field b edits) (filter (is_of kind.Via) (field_places j ts)) ≡ fields (all_named kind.Via ts)
-later_vias b edits pre last j [] n e cut put = refl
-later_vias b edits pre last j (t ∷ ts) n e cut put =
-    let rest = later_vias b edits (pre ++ field t) last (j + length (field t)) ts (omega (arith, n, length-append pre (field t))) (e ∙ along pre (field t) (fields ts) last) (λ k le. cut k (omega (arith, le))) (λ k le. put k (omega (arith, le))) in
-    elim (cases_Bool (is_named kind.Via t)) [
-      | inl y ↦
-          let test = named_here kind.Via j t ∙ y in
-          let text = part_of b pre (fields ts ++ last) j t n (e ∙ beside pre (field t) (fields ts) last) in
-          let same : edited_field b edits (field_place j t) ≡ field t = ap (λ (x : List ℕ). edited_from edits j x) text ∙ from_kept edits j (field t) (λ k low high. cut k low) (λ k low high. put k low) in
-          rw (test, y, same, rest) refl
-      | inr ne ↦ let test = named_here kind.Via j t ∙ ne in rw (test, ne, rest) refl
-    ]
-
-all_behind : (P : FieldTree → Type 0) (before after : List FieldTree) (t : FieldTree) → AllByRecursion P (before ++ (t ∷ after)) → P t × AllByRecursion P after
-all_behind P [] after t a = (a.0, a.1)
-all_behind P (u ∷ before) after t a = all_behind P before after t a.1
-
 -- the fields in order
 record ReplyOrder (vs back : List FieldTree) : Type 0 where
   vias : AllOf kind.Via vs
@@ -261,12 +225,6 @@ reason_is c d reason rest e =
     let at_3 = behind c (0 + 8 + length d) (32 ∷ []) (reason ++ rest) at_2 in
     part_is c (0 + 8 + length d + 1) reason rest at_3
 
-five : (p a h f l : List ℕ) → p ++ ((a ++ (h ++ f)) ++ l) ≡ (p ++ a) ++ (h ++ (f ++ l))
-five p a h f l = simp append_assoc
-
-six : (p h r : List ℕ) → p ++ (h ++ r) ≡ (p ++ h) ++ r
-six p h r = sym (append_assoc p h r)
-
 record ReplyVias (b : List ℕ) (m : Message) (source : Addr) (t : MessageTree) (x : Fields t.fields) : Type 0 where
   new : FieldTree
   rest : List FieldTree
@@ -280,58 +238,31 @@ record ReplyVias (b : List ℕ) (m : Message) (source : Addr) (t : MessageTree) 
   size : length (new ∷ rest) ≡ count kind.Via m.head.fields.items
 
 reply_vias : (b : List ℕ) (m : Message) (source : Addr) (s : Spelt b m) (k : KnownBy b m s.tree) → source.port < 2 ^ 16 → Reads b m → ReplyVias b m source s.tree k.fields
-unfolding via_of
 reply_vias b m source s k small r =
     let t = s.tree in
     let x = k.fields in
     let before = s.cut.before in
     let here = s.cut.here in
     let after = s.cut.after in
-    let whole = s.cut.whole in
-    let i = fields_from t in
-    let q0 = i + length (fields before) in
-    let v = m.via in
-    let edits = stamp v source in
-    let front = before_fields t ++ fields before in
-    let rest = fields after ++ behind_fields t in
-    let q = length front in
-    let at : q0 ≡ q = omega (arith, front_length t, length-append (before_fields t) (fields before)) in
-    let e : b ≡ front ++ (field here ++ rest) = s.text ∙ in_fields t ∙ ap (λ (z : List FieldTree). before_fields t ++ (fields z ++ behind_fields t)) whole ∙ ap (λ (z : List ℕ). before_fields t ++ (z ++ behind_fields t)) (fields_append before (here ∷ after)) ∙ five (before_fields t) (fields before) (field here) (fields after) (behind_fields t) in
-    let is = all_behind IsFieldTree before after here (subst (λ (z : List FieldTree). AllByRecursion IsFieldTree z) whole k.is.fields) in
-    let lists = all_behind ListReads before after here (subst (λ (z : List FieldTree). AllByRecursion ListReads z) whole x.lists) in
-    let f = bind_some (first kind.Via m.head.fields.items) _ v r.parts.via in
-    let place : f.0 ≡ field_place q here = same_Some f.0 s.via (sym f.1 ∙ s.via_is) ∙ s.cut.place ∙ ap (λ (n : ℕ). field_place n here) at in
-    let reads = subst (λ (z : HeaderSpan). via_at (take z.value.to b) z.value.from ≡ Some v) place f.2 in
-    let st = stamped_via b front rest here v source small e is.0 reads in
-    let via_of_here : is_named kind.Via here ≡ true = sym (named_here kind.Via q0 here) ∙ ap (λ (z : HeaderSpan). is_of kind.Via z) (sym s.cut.place) ∙ found_is kind.Via m.head.fields.items s.via s.via_is in
-    let none_before : find (is_named kind.Via) before ≡ None = none_named kind.Via i before s.cut.none in
-    let first_here : find (is_named kind.Via) t.fields ≡ Some here = ap (λ (z : List FieldTree). find (is_named kind.Via) z) whole ∙ find_behind kind.Via before (here ∷ after) none_before ∙ rw via_of_here refl in
+    let a = around b m s r in
+    let st = first_stamped b m source s small a in
+    let lists = all_behind ListReads before here after (subst (λ (z : List FieldTree). AllByRecursion ListReads z) s.cut.whole x.lists) in
+    let kept : all_named kind.Via (here ∷ after) ≡ here ∷ all_named kind.Via after = (let on = a.named in rw on refl) in
+    let all_b : all_named kind.Via t.fields ≡ here ∷ all_named kind.Via after = ap (λ (z : List FieldTree). all_named kind.Via z) s.cut.whole ∙ named_behind kind.Via before (here ∷ after) a.none ∙ kept in
+    let first_of : find (is_named kind.Via) (here ∷ after) ≡ Some here = (let on = a.named in rw on refl) in
+    let first_here : find (is_named kind.Via) t.fields ≡ Some here = ap (λ (z : List FieldTree). find (is_named kind.Via) z) s.cut.whole ∙ find_behind kind.Via before (here ∷ after) a.none ∙ first_of in
     let here_is : here ≡ x.via_field = same_Some here x.via_field (sym first_here ∙ x.via_first) in
-    let all_b : all_named kind.Via t.fields ≡ here ∷ all_named kind.Via after = ap (λ (z : List FieldTree). all_named kind.Via z) whole ∙ named_behind kind.Via before (here ∷ after) none_before ∙ rw via_of_here refl in
-    let j = q0 + length (field here) in
-    let items : m.head.fields.items ≡ field_places i before ++ (field_place q0 here ∷ field_places j after) = ap (λ (h : Head). h.fields.items) s.head ∙ ap (λ (z : List FieldTree). field_places i z) whole ∙ places_append i before (here ∷ after) in
-    let line = received_line (wants_received v source.ip) (dotted source.ip) in
-    let any : (from to : ℕ) → Stamps edits v source.port line from to = λ from to. stamps v source from to in
-    let quiet_cut : (n : ℕ) → j ≤ n → is_cut edits n ≡ false = λ n le. (any n (n + 1)).cut n (omega arith) (omega arith) ∙ (st.above n (omega (arith, le, at))).0 in
-    let quiet_put : (n : ℕ) → j ≤ n → inserted_at edits n ≡ [] = λ n le.
-    let w = st.above n (omega (arith, le, at)) in
-    let off = ne_eqb v.whole.to n w.1.1 in
-    (any n (n + 1)).put n (omega arith) (omega arith) ∙ (let p = w.1.0 in rw (p, off) refl) in
-    let others = later_vias b edits (front ++ field here) (behind_fields t) j after (omega (arith, at, length-append front (field here))) (e ∙ six front (field here) rest) quiet_cut quiet_put in
-    let mine : edited_field b edits (field_place q0 here) ≡ field st.new = ap (λ (n : ℕ). edited_field b edits (field_place n here)) at ∙ ap (λ (z : List ℕ). edited_from edits q z) (part_of b front rest q here refl e) ∙ st.text edits (any q (q + length (field here))) in
-    let test : is_of kind.Via (field_place q0 here) ≡ true = named_here kind.Via q0 here ∙ via_of_here in
-    let filtered : filter (is_of kind.Via) m.head.fields.items ≡ field_place q0 here ∷ filter (is_of kind.Via) (field_places j after) = ap (λ (z : List HeaderSpan). filter (is_of kind.Via) z) items ∙ filter_front kind.Via (field_places i before) (field_place q0 here ∷ field_places j after) s.cut.none ∙ rw test refl in
-    let new_named : is_named kind.Via st.new ≡ true = ap (λ (n : List ℕ). is_same_kind kind.Via (kind_of n)) st.name ∙ via_of_here in
+    let new_named : is_named kind.Via st.new ≡ true = ap (λ (n : List ℕ). is_same_kind kind.Via (kind_of n)) st.name ∙ a.named in
     let counts = count_stands kind.Via b m.head.fields.items t.fields k.stand in
     record {
       new = st.new;
       rest = all_named kind.Via after;
       via = st.via;
       reads = st.reads;
-      are = (st.is, at_named IsFieldTree kind.Via after is.1);
+      are = (st.is, at_named IsFieldTree kind.Via after a.are_behind);
       named = (new_named, all_of kind.Via after);
-      lists = (st.lists via_of_here lists.0, at_named ListReads kind.Via after lists.1);
-      text = ap (λ (z : List HeaderSpan). flat_map (edited_field b edits) z) filtered ∙ rw (mine, others) refl;
+      lists = (st.lists a.named lists.0, at_named ListReads kind.Via after lists.1);
+      text = vias_text b m source s a st;
       same = subst (λ (z : FieldTree). SameVia (value_text z) x.via (value_text st.new) st.via) here_is (st.same x.via (ap (λ (z : FieldTree). via_at (value_text z) 0) here_is ∙ x.via_reads));
       size = omega (arith, counts, filter_count kind.Via t.fields, ap (λ (z : List FieldTree). length z) all_b);
     }
@@ -431,6 +362,7 @@ reply_reads b m source code reason r small low high one few short =
         line = subst (λ (y : Start). IsStatusLine c y code reason) (sym d.start) (refl, reason_is c (decimal code) reason rest e);
         via = via_then (via_sym k.via) (via_then vi.same d.via);
         vias = texts_stand kind.Via c fs us d.stand ∙ ap fields (vias_kept vs back o) ∙ sym vi.text;
+        fields = omega (arith, made_count c t fields_are st w d, vi.size, length-append vs back);
         from = text_stands kind.From c fs us x.from_field d.stand fields_are.from_first ∙ sym from_text;
         to = text_stands kind.To c fs us to.new d.stand fields_are.to_first ∙ sym to.text;
         to_tag = λ nb. sym d.tag ∙ to.tag nb;

@@ -92,7 +92,7 @@ stamps v source from to =
     }
 
 -- bytes before which something is put in
-from_first : (edits : List Edit) (i : ℕ) (xs : List ℕ) → 0 < length xs → ((k : ℕ) → i ≤ k → k < i + length xs → is_cut edits k ≡ false) → ((k : ℕ) → i < k → k < i + length xs → inserted_at edits k ≡ []) → edited_from edits i xs ≡ inserted_at edits i ++ xs
+pub from_first : (edits : List Edit) (i : ℕ) (xs : List ℕ) → 0 < length xs → ((k : ℕ) → i ≤ k → k < i + length xs → is_cut edits k ≡ false) → ((k : ℕ) → i < k → k < i + length xs → inserted_at edits k ≡ []) → edited_from edits i xs ≡ inserted_at edits i ++ xs
 from_first edits i [] some cut put = absurd (omega (arith, some))
 from_first edits i (x ∷ xs) some cut put =
     let rest = from_kept edits (i + 1) xs (λ k low high. cut k (omega (arith, low)) (omega (arith, high))) (λ k low high. put k (omega (arith, low)) (omega (arith, high))) in

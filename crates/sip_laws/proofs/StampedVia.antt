@@ -163,13 +163,13 @@ line_of : (wants : Bool) (w : List ℕ) → IsLine w → IsLine (received_line w
 line_of true w line = (refl, (refl, (refl, (refl, (refl, (refl, (refl, (refl, (refl, (refl, line))))))))))
 line_of false w line = tt
 
-list_by_kind : (t : FieldTree) → kind_of t.name ≡ kind.Via → ListReads t → values_read (suc (length (value_text t))) (next_via (value_text t)) 0 ≡ true
+pub list_by_kind : (t : FieldTree) → kind_of t.name ≡ kind.Via → ListReads t → values_read (suc (length (value_text t))) (next_via (value_text t)) 0 ≡ true
 list_by_kind t k h = rw k at h
 
-list_of_kind : (t : FieldTree) → kind_of t.name ≡ kind.Via → values_read (suc (length (value_text t))) (next_via (value_text t)) 0 ≡ true → ListReads t
+pub list_of_kind : (t : FieldTree) → kind_of t.name ≡ kind.Via → values_read (suc (length (value_text t))) (next_via (value_text t)) 0 ≡ true → ListReads t
 list_of_kind t k h = rw k h
 
-old_field : (t : FieldTree) → IsFieldTree t → (v : List ℕ) → value_text t ≡ v → field t ≡ t.name ++ (t.gap ++ (58 ∷ (v ++ crlf)))
+pub old_field : (t : FieldTree) → IsFieldTree t → (v : List ℕ) → value_text t ≡ v → field t ≡ t.name ++ (t.gap ++ (58 ∷ (v ++ crlf)))
 unfolding behind_colon
 old_field t is v e = ap (λ (x : List ℕ). t.name ++ (t.gap ++ (58 ∷ x))) (behind_is t is ∙ ap (λ (x : List ℕ). x ++ crlf) e)
 

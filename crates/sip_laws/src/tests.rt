@@ -1,8 +1,8 @@
 //! Each law at one message that was worked out by hand, and texts that don't read.
-use msg_edits::TooLong;
+use msg_edits::{Edits, TooLong};
 use outside_ports::Addr;
-use sip_build::{ack, append_field, cancel, forwarded, relayed_reply, reply};
-use sip_msg::{Message, MsgFault, Span};
+use sip_build::{ack, append_field, cancel, forwarded, relayed_reply, reply, stateless_ack};
+use sip_msg::{Message, MsgFault, Span, Start};
 use std::process::Abort;
 
 /// 192.0.2.1:5060.
@@ -23,6 +23,20 @@ const SENT: &[u8] =
 
 const BUSY: &[u8] =
     b"SIP/2.0 486 Busy Here\r\nVia: SIP/2.0/UDP 127.0.0.1:5060;branch=z9hG4bKrs0\r\nFrom: <sip:u@h>;tag=f\r\nVia: SIP/2.0/UDP i;branch=z9hG4bK1\r\nt: <sip:b@h>;tag=t\r\nCall-ID: 6\r\nCSeq: 17 INVITE\r\n\r\n";
+
+/// A response whose top Via value has two others behind it in its field.
+const LISTED: &[u8] =
+    b"SIP/2.0 180 Ringing\r\nf: <sip:u@h>;tag=f\r\nv :\r\n SIP/2.0/UDP 127.0.0.1:5060;branch=z9hG4bKrs0 ,\r\n SIP/2.0/UDP i;branch=z9hG4bK2, SIP/2.0/UDP j\r\nt: <sip:b@h>;tag=t\r\nCall-ID: 6\r\nCSeq: 17 INVITE\r\n\r\n";
+
+/// A response with one Via value.
+const LAST: &[u8] =
+    b"SIP/2.0 180 Ringing\r\nVia: SIP/2.0/UDP 127.0.0.1:5060;branch=z9hG4bKrs0\r\nf: <sip:u@h>;tag=f\r\nt: <sip:b@h>;tag=t\r\nCall-ID: 6\r\nCSeq: 17 INVITE\r\n\r\n";
+
+/// An ACK without Max-Forwards.
+const ACKED: &[u8] =
+    b"ACK sip:b@h SIP/2.0\r\nv: SIP/2.0/UDP k;rport;branch=z9hG4bK9\r\nf: <sip:u@h>;tag=f\r\nt: <sip:b@h>;tag=t\r\nCall-ID: 6\r\nCSeq: 17 ACK\r\n\r\n";
+
+const CHALLENGE: &[u8] = b"WWW-Authenticate:\r\n Digest realm=\"h\"\r\n";
 
 /// What stands at a span.
 fn stands(room: &[u8], at: Span, want: &[u8]) -> bool {
@@ -87,6 +101,121 @@ fn what_is_sent_reads(rt: HostRuntime) {
         17,
         b"INVITE",
     );
+    let written = reply(SENT, &m, CALLER, 401, b"Unauthorized", &mut room);
+    let Ok(len) = written else {
+        assert!(rt; false);
+        return;
+    };
+    assert!(rt; len <= room.len());
+    let result = append_field(
+        &mut room,
+        len,
+        CHALLENGE,
+        Span {
+            from: 0,
+            to: CHALLENGE.len(),
+        },
+    );
+    reads(
+        &rt,
+        "a response with a challenge",
+        &room,
+        result,
+        b"z9hG4bKrs0",
+        17,
+        b"INVITE",
+    );
+    let Ok(lm) = Message::read(LISTED) else {
+        assert!(rt; false);
+        return;
+    };
+    let result = relayed_reply(LISTED, &lm, &[], &mut room);
+    reads(
+        &rt,
+        "a relayed response whose top Via value has others behind it",
+        &room,
+        result,
+        b"z9hG4bK2",
+        17,
+        b"INVITE",
+    );
+}
+
+/// The text at the front of the room reads, with this URI and Max-Forwards.
+fn goes_to(
+    rt: &impl Abort,
+    shows: &str,
+    room: &[u8; 1024],
+    written: Result<usize, TooLong>,
+    want: &[u8],
+    hops: u8,
+) {
+    let Some(text) = written.ok().and_then(|len| room.get(..len)) else {
+        assert!(rt; false, "{shows}");
+        return;
+    };
+    match Message::read(text) {
+        Ok(w) => {
+            assert!(rt; w.max_forwards == Some(hops), "{shows}");
+            match w.start {
+                Start::Request { uri, .. } => assert!(rt; stands(text, uri, want), "{shows}"),
+                Start::Status { .. } => assert!(rt; false, "{shows}"),
+            }
+        }
+        Err(_) => assert!(rt; false, "{shows}"),
+    }
+}
+
+#[test]
+fn what_is_forwarded_reads(rt: HostRuntime) {
+    let (Ok(m), Ok(am)) = (Message::read(SENT), Message::read(ACKED)) else {
+        assert!(rt; false);
+        return;
+    };
+    assert!(rt; m.max_forwards == Some(69));
+    assert!(rt; am.max_forwards == None);
+    let mut room = [0; 1024];
+    let result = forwarded(
+        SENT,
+        &m,
+        CALLER,
+        &[],
+        b"sip:c@h;x=1",
+        PROXY,
+        b"z9hG4bK2",
+        70,
+        &mut room,
+    );
+    goes_to(&rt, "a request", &room, result, b"sip:c@h;x=1", 68);
+    reads(&rt, "a request", &room, result, b"z9hG4bK2", 17, b"INVITE");
+    let mut edits = Edits::new();
+    let routes = Span { from: 101, to: 131 };
+    assert!(rt; stands(SENT, routes, b"Route: <sip:p1;lr>, <sip:p2>\r\n"));
+    assert!(rt; edits.cut(routes).is_ok());
+    let result = forwarded(
+        SENT,
+        &m,
+        CALLER,
+        edits.as_slice(),
+        b"sip:c@h",
+        PROXY,
+        b"z9hG4bK3",
+        70,
+        &mut room,
+    );
+    goes_to(&rt, "an edited request", &room, result, b"sip:c@h", 68);
+    reads(
+        &rt,
+        "an edited request",
+        &room,
+        result,
+        b"z9hG4bK3",
+        17,
+        b"INVITE",
+    );
+    let result = stateless_ack(ACKED, &am, CALLER, &[], b"sip:c@h", PROXY, 70, &mut room);
+    goes_to(&rt, "an ACK", &room, result, b"sip:c@h", 70);
+    reads(&rt, "an ACK", &room, result, b"z9hG4bKsl.9", 17, b"ACK");
 }
 
 /// The text at the front of the room has this fault.
@@ -156,6 +285,36 @@ fn texts_that_are_no_messages(rt: HostRuntime) {
         &room,
         result,
         MsgFault::BadHeader,
+    );
+    let mut full = [0; 1024];
+    full[..FULL.len()].copy_from_slice(FULL);
+    let result = append_field(
+        &mut full,
+        FULL.len(),
+        CHALLENGE,
+        Span {
+            from: 0,
+            to: CHALLENGE.len(),
+        },
+    );
+    has_fault(
+        &rt,
+        "129 fields, a challenge among them",
+        &full,
+        result,
+        MsgFault::TooManyHeaders,
+    );
+    let Ok(lm) = Message::read(LAST) else {
+        assert!(rt; false);
+        return;
+    };
+    let result = relayed_reply(LAST, &lm, &[], &mut room);
+    has_fault(
+        &rt,
+        "a response without a second Via value",
+        &room,
+        result,
+        MsgFault::Missing,
     );
     let written = reply(FULL, &m, CALLER, 200, b"OK", &mut room);
     let Ok(len) = written else {

@@ -12,7 +12,7 @@ use Rattle.sip_words.specs.Bytes.{has}
 use Rattle.sip_words.specs.Spans.{span}
 use Rattle.sip_words.proofs.Pieces.{behind, part_is, Ends, word_again, number_again}
 use Rattle.sip_msg.specs.declared.plain.PlainRequest.{PlainRequest}
-use Rattle.sip_msg.specs.declared.plain.Line.{Line}
+use Rattle.sip_msg.specs.declared.plain.PlainLine.{PlainLine}
 use Rattle.sip_msg.specs.PlainReader.{exactly_at, is_uri_byte, plain_uri_at, number_below, plain_address_at, plain_port_at, branch_at, request_line_at, line_to, sent_by_at, branch_param_at, via_line, from_line, to_line, call_id_line, cseq_line, rest_end, plain_at}
 use Rattle.sip_msg.specs.PlainForm.{IsPlainUri, IsBelow, IsPlainAddress, IsPlainPort, IsSentBy, IsPlainBranch, Parts, ArePlain, IsPlainRequest, crlf, request_line, via, from, to, call_id, cseq, last_lines, spelled}
 
@@ -136,7 +136,7 @@ unfolding branch_at
 branch_again text i w rest h is ends = rw (word_again Token text i w rest h is.token ends, part_is text i w rest h, is.cookie) refl
 
 -- the line from i, which ends where CRLF stands
-abbrev line_of : ℕ → ℕ → Line
+abbrev line_of : ℕ → ℕ → PlainLine
 line_of i e = record { field = span i e; next = e + 2 }
 
 line_again : (text : List ℕ) (i e : ℕ) (rest : List ℕ) → drop e text ≡ crlf ++ rest → line_to text i e ≡ Some (line_of i e)

@@ -17,7 +17,7 @@ use Rattle.sip_words.specs.Grammar.{IsWord}
 use Rattle.sip_words.proofs.Steps.{bind_some}
 use Rattle.sip_words.proofs.Takes.{Takes, then, takes, word_takes, number_takes, part_taken}
 use Rattle.sip_msg.specs.declared.plain.PlainRequest.{PlainRequest}
-use Rattle.sip_msg.specs.declared.plain.Line.{Line}
+use Rattle.sip_msg.specs.declared.plain.PlainLine.{PlainLine}
 use Rattle.sip_msg.specs.declared.plain.ViaLine.{ViaLine}
 use Rattle.sip_msg.specs.PlainReader.{exactly_at, is_uri_byte, plain_uri_at, number_below, plain_address_at, plain_port_at, branch_at, request_line_at, line_to, sent_by_at, branch_param_at, via_line, from_line, to_line, call_id_line, cseq_line, rest_end, parts, plain_at}
 use Rattle.sip_msg.specs.PlainForm.{IsPlainUri, IsBelow, IsPlainAddress, IsPlainPort, IsSentBy, IsPlainBranch, Parts, ArePlain, IsPlainRequest, crlf, request_line, via, from, to, call_id, cseq, last_lines, spelled, places}
@@ -128,12 +128,12 @@ branch_takes text i j h =
     }
 
 -- a line of the text, and the place of the next one
-pub record LineTaken (shape : List ℕ) (text : List ℕ) (i : ℕ) (l : Line) : Type 0 where
+pub record LineTaken (shape : List ℕ) (text : List ℕ) (i : ℕ) (l : PlainLine) : Type 0 where
   pub from : l.field.from ≡ i
   pub line : Takes text i l.field.to shape
   pub next : Takes text l.field.to l.next crlf
 
-line_takes : (shape text : List ℕ) (i e : ℕ) (l : Line) → line_to text i e ≡ Some l → Takes text i e shape → LineTaken shape text i l
+line_takes : (shape text : List ℕ) (i e : ℕ) (l : PlainLine) → line_to text i e ≡ Some l → Takes text i e shape → LineTaken shape text i l
 unfolding line_to
 line_takes shape text i e l h t =
     let a = bind_some (exactly_at (codes "\r\n") text e) _ l h in
@@ -195,19 +195,19 @@ via_takes text i v h =
     })
 
 -- a line, and its one or two parts
-pub record Known (P : List ℕ → Type 0) (shape : List ℕ → List ℕ) (text : List ℕ) (i : ℕ) (l : Line) : Type 0 where
+pub record Known (P : List ℕ → Type 0) (shape : List ℕ → List ℕ) (text : List ℕ) (i : ℕ) (l : PlainLine) : Type 0 where
   pub part : List ℕ
   pub is : P part
   pub line : LineTaken (shape part) text i l
 
-pub record FromTaken (text : List ℕ) (i : ℕ) (l : Line) : Type 0 where
+pub record FromTaken (text : List ℕ) (i : ℕ) (l : PlainLine) : Type 0 where
   pub uri : List ℕ
   pub tag : List ℕ
   pub uri_is : IsPlainUri uri
   pub tag_is : IsWord Value tag
   pub line : LineTaken (codes "From: <" ++ (uri ++ (codes ">;tag=" ++ tag))) text i l
 
-from_takes : (text : List ℕ) (i : ℕ) (l : Line) → from_line text i ≡ Some l → FromTaken text i l
+from_takes : (text : List ℕ) (i : ℕ) (l : PlainLine) → from_line text i ≡ Some l → FromTaken text i l
 unfolding from_line
 from_takes text i l h =
     let a = bind_some (exactly_at (codes "From: <") text i) _ l h in
@@ -221,7 +221,7 @@ from_takes text i l h =
     let whole = then front (then wu.taken (then tag wt.1)) in
     record { uri = wu.word; tag = wt.0; uri_is = wu.is; tag_is = wt.2; line = line_takes _ text i d.0 l d.2 whole }
 
-to_takes : (text : List ℕ) (i : ℕ) (l : Line) → to_line text i ≡ Some l → Known IsPlainUri (λ w. codes "To: <" ++ (w ++ codes ">")) text i l
+to_takes : (text : List ℕ) (i : ℕ) (l : PlainLine) → to_line text i ≡ Some l → Known IsPlainUri (λ w. codes "To: <" ++ (w ++ codes ">")) text i l
 unfolding to_line
 to_takes text i l h =
     let a = bind_some (exactly_at (codes "To: <") text i) _ l h in
@@ -232,7 +232,7 @@ to_takes text i l h =
     let back = exactly_takes (codes ">") text b.0 c.0 c.1 in
     record { part = w.word; is = w.is; line = line_takes _ text i c.0 l c.2 (then front (then w.taken back)) }
 
-call_id_takes : (text : List ℕ) (i : ℕ) (l : Line) → call_id_line text i ≡ Some l → Known (IsWord Unbroken) (λ w. codes "Call-ID: " ++ w) text i l
+call_id_takes : (text : List ℕ) (i : ℕ) (l : PlainLine) → call_id_line text i ≡ Some l → Known (IsWord Unbroken) (λ w. codes "Call-ID: " ++ w) text i l
 unfolding call_id_line
 call_id_takes text i l h =
     let a = bind_some (exactly_at (codes "Call-ID: ") text i) _ l h in
@@ -241,7 +241,7 @@ call_id_takes text i l h =
     let w = word_takes Unbroken text a.0 b.0 b.1 in
     record { part = w.0; is = w.2; line = line_takes _ text i b.0 l b.2 (then front w.1) }
 
-cseq_takes : (text : List ℕ) (i : ℕ) (l : Line) → cseq_line text i ≡ Some l
+cseq_takes : (text : List ℕ) (i : ℕ) (l : PlainLine) → cseq_line text i ≡ Some l
     → Known (IsBelow 10 2147483648) (λ w. codes "CSeq: " ++ (w ++ codes " OPTIONS")) text i l
 unfolding cseq_line
 cseq_takes text i l h =
@@ -287,10 +287,10 @@ same_span : (s : Span) (i j : ℕ) → s.from ≡ i → s.to ≡ j → s ≡ spa
 same_span s i j a b = ap (λ (k : ℕ). span k s.to) a ∙ ap (λ (k : ℕ). span i k) b
 
 -- a line that begins at i ends behind its bytes
-field_is : (shape text : List ℕ) (i j : ℕ) (l : Line) → LineTaken shape text i l → i ≡ j → l.field ≡ span j (j + length shape)
+field_is : (shape text : List ℕ) (i j : ℕ) (l : PlainLine) → LineTaken shape text i l → i ≡ j → l.field ≡ span j (j + length shape)
 field_is shape text i j l t e = same_span l.field j (j + length shape) (t.from ∙ e) (omega (arith, t.line.end, e))
 
-next_is : (shape text : List ℕ) (i j : ℕ) (l : Line) → LineTaken shape text i l → i ≡ j → l.next ≡ j + length shape + 2
+next_is : (shape text : List ℕ) (i j : ℕ) (l : PlainLine) → LineTaken shape text i l → i ≡ j → l.next ≡ j + length shape + 2
 next_is shape text i j l t e = omega (arith, t.line.end, t.next.end, e)
 
 from_start : (text w : List ℕ) (j : ℕ) → Takes text 0 j w → j ≡ length w
@@ -300,7 +300,7 @@ nothing_left : (text : List ℕ) (end : ℕ) → (end == length text) ≡ true �
 nothing_left text end h = drop_all end text (omega (arith, eqb-true end (length text) h))
 
 -- the lines that were read, and the parts that they spell
-record LinesTaken (text : List ℕ) (first : ℕ) (v : ViaLine) (m t c s : Line) (end : ℕ) : Type 0 where
+record LinesTaken (text : List ℕ) (first : ℕ) (v : ViaLine) (m t c s : PlainLine) (end : ℕ) : Type 0 where
   p : Parts
   is : ArePlain p
   request : Takes text 0 first (request_line p)
@@ -330,7 +330,7 @@ rport_is : (i j n rport : ℕ) → i ≡ j → rport ≡ i + length (codes "Via:
     → rport ≡ j + length (codes "Via: SIP/2.0/UDP ") + n + length (codes ";rport")
 rport_is i j n rport e h = h ∙ ap (λ k. k + length (codes "Via: SIP/2.0/UDP ") + n + length (codes ";rport")) e
 
-places_are : (text : List ℕ) (first : ℕ) (v : ViaLine) (m t c s : Line) (end : ℕ) (h : LinesTaken text first v m t c s end) → parts v m t c s ≡ places h.p
+places_are : (text : List ℕ) (first : ℕ) (v : ViaLine) (m t c s : PlainLine) (end : ℕ) (h : LinesTaken text first v m t c s end) → parts v m t c s ≡ places h.p
 places_are text first v m t c s end h =
     let via_at = from_start text (request_line h.p) first h.request in
     let from_at = next_is (via h.p) text first _ v.line h.via_is via_at in
@@ -347,12 +347,12 @@ places_are text first v m t c s end h =
     (field_is (call_id h.p) text t.next _ c h.call_id_is call_id_at)
     (field_is (cseq h.p) text c.next _ s h.cseq_is cseq_at)
 
-whole_is : (text : List ℕ) (first : ℕ) (v : ViaLine) (m t c s : Line) (end : ℕ) (h : LinesTaken text first v m t c s end) → Takes text 0 end (spelled h.p)
+whole_is : (text : List ℕ) (first : ℕ) (v : ViaLine) (m t c s : PlainLine) (end : ℕ) (h : LinesTaken text first v m t c s end) → Takes text 0 end (spelled h.p)
 whole_is text first v m t c s end h =
     then h.request (then h.via_is.line (then h.via_is.next (then h.from_is.line (then h.from_is.next (then h.to_is.line (then h.to_is.next
     (then h.call_id_is.line (then h.call_id_is.next (then h.cseq_is.line (then h.cseq_is.next h.last))))))))))
 
-lines_taken : (text : List ℕ) (first : ℕ) (v : ViaLine) (m t c s : Line) (end : ℕ) → request_line_at text ≡ Some first → via_line text first ≡ Some v
+lines_taken : (text : List ℕ) (first : ℕ) (v : ViaLine) (m t c s : PlainLine) (end : ℕ) → request_line_at text ≡ Some first → via_line text first ≡ Some v
     → from_line text v.line.next ≡ Some m → to_line text m.next ≡ Some t → call_id_line text t.next ≡ Some c → cseq_line text c.next ≡ Some s
     → rest_end text s.next ≡ Some end → LinesTaken text first v m t c s end
 lines_taken text first v m t c s end h1 h2 h3 h4 h5 h6 h7 =
@@ -398,7 +398,7 @@ lines_taken text first v m t c s end h1 h2 h3 h4 h5 h6 h7 =
       last = tr.taken;
     }
 
-is_plain : (text : List ℕ) (first : ℕ) (v : ViaLine) (m t c s : Line) (end : ℕ) (plain : PlainRequest) → LinesTaken text first v m t c s end
+is_plain : (text : List ℕ) (first : ℕ) (v : ViaLine) (m t c s : PlainLine) (end : ℕ) (plain : PlainRequest) → LinesTaken text first v m t c s end
     → length text ≤ 2048 → (end == length text) ≡ true → parts v m t c s ≡ plain → IsPlainRequest text plain
 is_plain text first v m t c s end plain h short ends made = record {
   parts = h.p;

@@ -10,7 +10,7 @@ use Rattle.sip_words.specs.Numbers.{number_at}
 use Rattle.sip_words.specs.declared.Span.{Span}
 use Rattle.sip_words.specs.Spans.{span}
 use Rattle.sip_msg.specs.declared.plain.PlainRequest.{PlainRequest}
-use Rattle.sip_msg.specs.declared.plain.Line.{Line}
+use Rattle.sip_msg.specs.declared.plain.PlainLine.{PlainLine}
 use Rattle.sip_msg.specs.declared.plain.ViaLine.{ViaLine}
 
 -- the end of these very bytes
@@ -58,7 +58,7 @@ request_line_at text = do
   exactly_at (codes " SIP/2.0\r\n") text uri_end
 
 -- the line from i up to a CRLF at e
-unfoldable pub line_to : List ℕ → ℕ → ℕ → Option Line
+unfoldable pub line_to : List ℕ → ℕ → ℕ → Option PlainLine
 line_to text i e = do
   next ← exactly_at (codes "\r\n") text e
   Some record { field = span i e; next = next }
@@ -84,7 +84,7 @@ via_line text i = do
   l ← line_to text i branch.to
   Some record { line = l; rport = rport; branch = branch }
 
-unfoldable pub from_line : List ℕ → ℕ → Option Line
+unfoldable pub from_line : List ℕ → ℕ → Option PlainLine
 from_line text i = do
   uri ← exactly_at (codes "From: <") text i
   uri_end ← plain_uri_at InBrackets text uri
@@ -92,20 +92,20 @@ from_line text i = do
   e ← word_end Value text tag
   line_to text i e
 
-unfoldable pub to_line : List ℕ → ℕ → Option Line
+unfoldable pub to_line : List ℕ → ℕ → Option PlainLine
 to_line text i = do
   uri ← exactly_at (codes "To: <") text i
   uri_end ← plain_uri_at InBrackets text uri
   e ← exactly_at (codes ">") text uri_end
   line_to text i e
 
-unfoldable pub call_id_line : List ℕ → ℕ → Option Line
+unfoldable pub call_id_line : List ℕ → ℕ → Option PlainLine
 call_id_line text i = do
   call_id ← exactly_at (codes "Call-ID: ") text i
   e ← word_end Unbroken text call_id
   line_to text i e
 
-unfoldable pub cseq_line : List ℕ → ℕ → Option Line
+unfoldable pub cseq_line : List ℕ → ℕ → Option PlainLine
 cseq_line text i = do
   number ← exactly_at (codes "CSeq: ") text i
   number_end ← number_below 10 2147483648 text number
@@ -118,7 +118,7 @@ rest_end text i = do
   hops_end ← number_below 3 256 text hops
   exactly_at (codes "\r\nContent-Length: 0\r\n\r\n") text hops_end
 
-abbrev pub parts : ViaLine → Line → Line → Line → Line → PlainRequest
+abbrev pub parts : ViaLine → PlainLine → PlainLine → PlainLine → PlainLine → PlainRequest
 parts via from to call_id cseq = record {
   via = via.line.field;
   rport = via.rport;

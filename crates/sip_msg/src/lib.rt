@@ -4,14 +4,15 @@
 //!   the first of nine faults.
 //! - [`read_basis`] tells what a response to a malformed request rests on, where there is one.
 //! - [`read_plain`] reads the plain request alone: an OPTIONS whose lines stand in one order.
-//! - [`laws`] has what follows of any message and basis that a datagram has.
+//! - [`a_message_lies_in_its_datagram`] and [`a_basis_lies_in_its_datagram`] are laws of any message and basis that a
+//!   datagram has.
 //!
 //! Nothing here takes memory.
 #![tactic(auto)]
 
 mod basis;
 mod fields;
-pub mod laws;
+mod laws;
 mod message;
 mod plain;
 #[cfg(test)]
@@ -22,6 +23,7 @@ mod tests;
 mod values;
 
 pub use basis::{Basis, read_basis};
+pub use laws::{a_basis_lies_in_its_datagram, a_message_lies_in_its_datagram};
 pub use message::{Message, MsgFault};
 pub use plain::{PlainRequest, read_plain};
 pub use sip_words::Span;

@@ -84,7 +84,7 @@ fn end_of(b: &[u8], body: usize, announced: Option<usize>) -> Option<usize>
     }
 }
 
-/// Fills in the message whose start line and head these are, or answers the first of the later faults.
+/// Fills in the message whose start line and head these are, or returns the first of the later faults.
 #[tactic(auto, using(crate::proofs::Rows::missing, crate::proofs::Rows::repeated, crate::proofs::Rows::bad_field, crate::proofs::Rows::short_body, crate::proofs::Rows::no_later))]
 fn parts_into(b: &[u8], start: Start, m: &mut Message) -> Result<(), MsgFault>
     requires start { IsStartBetween 0 (length b.now) start }
@@ -122,7 +122,7 @@ fn parts_into(b: &[u8], start: Start, m: &mut Message) -> Result<(), MsgFault>
     Ok(())
 }
 
-/// Reads the message into a room, or answers the first fault.
+/// Reads the message into a room, or returns the first fault.
 #[tactic(auto, using(crate::proofs::Rows::too_long, crate::proofs::Rows::not_sip, crate::proofs::Rows::bad_start))]
 fn message_into(b: &[u8], m: &mut Message) -> Result<(), MsgFault>
     ensures found { IfOk result (λ _. Reads b.now m.new) }
@@ -187,7 +187,7 @@ impl Message {
         }
     }
 
-    /// Reads the request or response that the datagram is into a room, whatever it held before, or answers the first
+    /// Reads the request or response that the datagram is into a room, whatever it held before, or returns the first
     /// fault, in this order: TooLong, NotSip, BadStartLine, BadHeader, TooManyHeaders, Missing, Repeated, BadField,
     /// ShortBody. On a fault the room holds anything.
     pub fn read_into(b: &[u8], room: &mut Message) -> Result<(), MsgFault>

@@ -28,7 +28,7 @@ pub struct PlainRequest {
 
 /// A line: its bytes without the CRLF, and the place of the next line.
 #[derive(Clone, Copy)]
-struct Line {
+struct PlainLine {
     field: Span,
     next: usize,
 }
@@ -36,7 +36,7 @@ struct Line {
 /// The line Via: the place behind the word `rport`, and the value of `branch`.
 #[derive(Clone, Copy)]
 struct ViaLine {
-    line: Line,
+    line: PlainLine,
     rport: usize,
     branch: Span,
 }
@@ -135,7 +135,7 @@ fn request_line_at(text: &[u8]) -> Option<usize>
 
 /// The line from `from` up to `end`, where a CRLF stands.
 #[tactic(auto, unfolding(crate::specs::PlainReader::line_to))]
-fn line_to(text: &[u8], from: usize, end: usize) -> Option<Line>
+fn line_to(text: &[u8], from: usize, end: usize) -> Option<PlainLine>
     requires order { from ≤ end }
     requires within { end ≤ length text.now }
     ensures value { result ≡ line_to text.now from end }
@@ -144,7 +144,7 @@ fn line_to(text: &[u8], from: usize, end: usize) -> Option<Line>
 {
     let next = exactly_at(text, end, b"\r\n")?;
     let field = Span { from, to: end };
-    Some(Line { field, next })
+    Some(PlainLine { field, next })
 }
 
 /// The end of `IP:PORT`.
@@ -199,7 +199,7 @@ fn via_line(text: &[u8], from: usize) -> Option<ViaLine>
 
 /// The line `From: <U>;tag=K` at `from`.
 #[tactic(auto, unfolding(crate::specs::PlainReader::from_line))]
-fn from_line(text: &[u8], from: usize) -> Option<Line>
+fn from_line(text: &[u8], from: usize) -> Option<PlainLine>
     requires { from ≤ length text.now }
     ensures value { result ≡ from_line text.now from }
     ensures bounds { IfSome result (λ line. line.next ≤ length text.now) }
@@ -214,7 +214,7 @@ fn from_line(text: &[u8], from: usize) -> Option<Line>
 
 /// The line `To: <U>` at `from`.
 #[tactic(auto, unfolding(crate::specs::PlainReader::to_line))]
-fn to_line(text: &[u8], from: usize) -> Option<Line>
+fn to_line(text: &[u8], from: usize) -> Option<PlainLine>
     requires { from ≤ length text.now }
     ensures value { result ≡ to_line text.now from }
     ensures bounds { IfSome result (λ line. line.next ≤ length text.now) }
@@ -228,7 +228,7 @@ fn to_line(text: &[u8], from: usize) -> Option<Line>
 
 /// The line `Call-ID: C` at `from`.
 #[tactic(auto, unfolding(crate::specs::PlainReader::call_id_line))]
-fn call_id_line(text: &[u8], from: usize) -> Option<Line>
+fn call_id_line(text: &[u8], from: usize) -> Option<PlainLine>
     requires { from ≤ length text.now }
     ensures value { result ≡ call_id_line text.now from }
     ensures bounds { IfSome result (λ line. line.next ≤ length text.now) }
@@ -241,7 +241,7 @@ fn call_id_line(text: &[u8], from: usize) -> Option<Line>
 
 /// The line `CSeq: N OPTIONS` at `from`.
 #[tactic(auto, unfolding(crate::specs::PlainReader::cseq_line))]
-fn cseq_line(text: &[u8], from: usize) -> Option<Line>
+fn cseq_line(text: &[u8], from: usize) -> Option<PlainLine>
     requires { from ≤ length text.now }
     ensures value { result ≡ cseq_line text.now from }
     ensures bounds { IfSome result (λ line. line.next ≤ length text.now) }

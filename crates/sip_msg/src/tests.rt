@@ -72,395 +72,354 @@ fn a_request_in_compact_form(rt: HostRuntime) {
     }
 }
 
-#[test]
-fn messages(rt: HostRuntime) {
-    reads(
-        &rt,
+/// Messages, and where each ends.
+const MESSAGES: [(&[u8], usize); 12] = [
+    (
+        b"SIP/2.0 200 OK\r\nv:SIP/2.0/UDP h\r\nf:<sip:a@h>;tag=1\r\nt:sip:b@h\r\ni:m\r\nCSeq:1 OPTIONS\r\n\r\n",
+        86,
+    ),
+    (
         b"OPTIONS sip:b@h SIP/2.0\r\nv:SIP/2.0/UDP h;branch=z9hG4bKm\r\nf:<sip:a@h>;tag=1\r\nt:sip:b@h\r\ni:m\r\nCSeq:1 OPTIONS\r\n\r\n",
         111,
-    );
-    reads(
-        &rt,
+    ),
+    (
         b"\r\n\n\rOPTIONS sip:b@h SIP/2.0\r\nv:SIP/2.0/UDP h;branch=z9hG4bKm\r\nf:<sip:a@h>;tag=1\r\nt:sip:b@h\r\ni:m\r\nCSeq:1 OPTIONS\r\n\r\n",
         115,
-    );
-    reads(
-        &rt,
+    ),
+    (
         b"OPTIONS sip:b@h sip/2.0\r\nv:SIP/2.0/UDP h;branch=z9hG4bKm\r\nf:<sip:a@h>;tag=1\r\nt:sip:b@h\r\ni:m\r\nCSeq:1 OPTIONS\r\n\r\n",
         111,
-    );
-    reads(
-        &rt,
+    ),
+    (
         b"OPTIONS sip:b@h SIP/2.0\r\nv:SIP/2.0/UDP h;branch=z9hG4bKm\r\nf:<sip:a@h>;tag=1\r\nt:sip:b@h\r\ni:m\r\nCSeq:1 OPTIONS\r\n\r\nabcd",
         115,
-    );
-    reads(
-        &rt,
+    ),
+    (
         b"OPTIONS sip:b@h SIP/2.0\r\nv:SIP/2.0/UDP h;branch=z9hG4bKm\r\nf:<sip:a@h>;tag=1\r\nt:sip:b@h\r\ni:m\r\nCSeq:1 OPTIONS\r\nl:4\r\n\r\nabcd",
         120,
-    );
-    reads(
-        &rt,
+    ),
+    (
         b"OPTIONS sip:b@h SIP/2.0\r\nv:SIP/2.0/UDP h;branch=z9hG4bKm\r\nf:<sip:a@h>;tag=1\r\nt:sip:b@h\r\ni:m\r\nCSeq:1 OPTIONS\r\nl: 3 \r\n\r\nabcd",
         121,
-    );
-    reads(
-        &rt,
+    ),
+    (
         b"OPTIONS sip:b@h SIP/2.0\r\nv:SIP/2.0/UDP h;branch=z9hG4bKm\r\nf:<sip:a@h>;tag=1\r\nt:sip:b@h\r\ni:m\r\nCSeq:1 OPTIONS\r\nContent-Length:0\r\n\r\nabcd",
         129,
-    );
-    reads(
-        &rt,
+    ),
+    (
         b"OPTIONS sip:b@h SIP/2.0\r\nv:SIP/2.0/UDP h;branch=z9hG4bKm\r\nf:<sip:a@h>;tag=1\r\nt:sip:b@h\r\ni:m\r\nCSeq:1 OPTIONS\r\nMax-Forwards:255\r\n\r\n",
         129,
-    );
-    reads(
-        &rt,
+    ),
+    (
         b"OPTIONS sip:b@h SIP/2.0\r\nv:SIP/2.0/UDP h;branch=z9hG4bKm\r\nf:<sip:a@h>;tag=1\r\nt:sip:b@h\r\ni:m\r\nCSeq:1 OPTIONS\r\nRoute: <sip:p;lr>, <sip:q>\r\nRoute:<sip:r>\r\n\r\n",
         154,
-    );
-    reads(
-        &rt,
+    ),
+    (
         b"OPTIONS sip:b@h SIP/2.0\r\nv:SIP/2.0/UDP h;branch=z9hG4bKm\r\nf:<sip:a@h>;tag=1\r\nt:sip:b@h\r\ni:m\r\nCSeq:1 OPTIONS\r\nVia: SIP/2.0/UDP g\r\n\r\n",
         131,
-    );
-    reads(
-        &rt,
+    ),
+    (
         b"OPTIONS sip:b@h SIP/2.0\r\nv:SIP/2.0/UDP h;branch=z9hG4bKm\r\nf:<sip:a@h>;tag=1\r\nt:sip:b@h\r\ni:m\r\nCSeq:1 OPTIONS\r\nContact:\r\nX: ,\r\n\r\n",
         127,
-    );
-}
+    ),
+];
 
 #[test]
-fn status_lines(rt: HostRuntime) {
-    status(
-        &rt,
+fn messages(rt: HostRuntime) {
+    for (text, end) in MESSAGES {
+        reads(&rt, text, end);
+    }
+}
+
+/// Messages with a status line, and its code and reason.
+const STATUS_LINES: [(&[u8], u16, &[u8]); 5] = [
+    (
         b"SIP/2.0 100 Trying\r\nv:SIP/2.0/UDP h;branch=z9hG4bKm\r\nf:<sip:a@h>;tag=1\r\nt:sip:b@h\r\ni:m\r\nCSeq:1 INVITE\r\n\r\n",
         100,
         b"Trying",
-    );
-    status(
-        &rt,
+    ),
+    (
         b"SIP/2.0 699 a b \r\nv:SIP/2.0/UDP h;branch=z9hG4bKm\r\nf:<sip:a@h>;tag=1\r\nt:sip:b@h\r\ni:m\r\nCSeq:1 INVITE\r\n\r\n",
         699,
         b"a b ",
-    );
-    status(
-        &rt,
+    ),
+    (
         b"SIP/2.0 200\r\nv:SIP/2.0/UDP h;branch=z9hG4bKm\r\nf:<sip:a@h>;tag=1\r\nt:sip:b@h\r\ni:m\r\nCSeq:1 INVITE\r\n\r\n",
         200,
         b"",
-    );
-    status(
-        &rt,
+    ),
+    (
         b"SIP/2.0 200 \r\nv:SIP/2.0/UDP h;branch=z9hG4bKm\r\nf:<sip:a@h>;tag=1\r\nt:sip:b@h\r\ni:m\r\nCSeq:1 INVITE\r\n\r\n",
         200,
         b"",
-    );
-    status(
-        &rt,
+    ),
+    (
         b"sip/2.0 200 OK\r\nv:SIP/2.0/UDP h;branch=z9hG4bKm\r\nf:<sip:a@h>;tag=1\r\nt:sip:b@h\r\ni:m\r\nCSeq:1 INVITE\r\n\r\n",
         200,
         b"OK",
-    );
-    reads(
-        &rt,
-        b"SIP/2.0 200 OK\r\nv:SIP/2.0/UDP h\r\nf:<sip:a@h>;tag=1\r\nt:sip:b@h\r\ni:m\r\nCSeq:1 OPTIONS\r\n\r\n",
-        86,
-    );
-    refuses(
-        &rt,
+    ),
+];
+
+/// Messages whose status line is malformed, and their fault.
+const NO_STATUS_LINES: [(&[u8], MsgFault); 7] = [
+    (
         b"SIP/2.0 99 x\r\nv:SIP/2.0/UDP h;branch=z9hG4bKm\r\nf:<sip:a@h>;tag=1\r\nt:sip:b@h\r\ni:m\r\nCSeq:1 INVITE\r\n\r\n",
         MsgFault::BadStartLine,
-    );
-    refuses(
-        &rt,
+    ),
+    (
         b"SIP/2.0 099 x\r\nv:SIP/2.0/UDP h;branch=z9hG4bKm\r\nf:<sip:a@h>;tag=1\r\nt:sip:b@h\r\ni:m\r\nCSeq:1 INVITE\r\n\r\n",
         MsgFault::BadStartLine,
-    );
-    refuses(
-        &rt,
+    ),
+    (
         b"SIP/2.0 700 x\r\nv:SIP/2.0/UDP h;branch=z9hG4bKm\r\nf:<sip:a@h>;tag=1\r\nt:sip:b@h\r\ni:m\r\nCSeq:1 INVITE\r\n\r\n",
         MsgFault::BadStartLine,
-    );
-    refuses(
-        &rt,
+    ),
+    (
         b"SIP/2.0 0200 x\r\nv:SIP/2.0/UDP h;branch=z9hG4bKm\r\nf:<sip:a@h>;tag=1\r\nt:sip:b@h\r\ni:m\r\nCSeq:1 INVITE\r\n\r\n",
         MsgFault::BadStartLine,
-    );
-    refuses(
-        &rt,
+    ),
+    (
         b"SIP/2.0  200 x\r\nv:SIP/2.0/UDP h;branch=z9hG4bKm\r\nf:<sip:a@h>;tag=1\r\nt:sip:b@h\r\ni:m\r\nCSeq:1 INVITE\r\n\r\n",
         MsgFault::BadStartLine,
-    );
-    refuses(
-        &rt,
+    ),
+    (
         b"SIP/2.0 200OK\r\nv:SIP/2.0/UDP h;branch=z9hG4bKm\r\nf:<sip:a@h>;tag=1\r\nt:sip:b@h\r\ni:m\r\nCSeq:1 INVITE\r\n\r\n",
         MsgFault::BadStartLine,
-    );
-    refuses(
-        &rt,
+    ),
+    (
         b"SIP/2.1 200 OK\r\nv:SIP/2.0/UDP h;branch=z9hG4bKm\r\nf:<sip:a@h>;tag=1\r\nt:sip:b@h\r\ni:m\r\nCSeq:1 INVITE\r\n\r\n",
         MsgFault::BadStartLine,
-    );
+    ),
+];
+
+#[test]
+fn status_lines(rt: HostRuntime) {
+    for (text, code, reason) in STATUS_LINES {
+        status(&rt, text, code, reason);
+    }
+    for (text, fault) in NO_STATUS_LINES {
+        refuses(&rt, text, fault);
+    }
 }
+
+/// Datagrams with one fault.
+const FAULTS: [(&[u8], MsgFault); 48] = [
+    (b"\r\n\r\n", MsgFault::NotSip),
+    (b"GET / HTTP/1.1\r\n\r\n", MsgFault::NotSip),
+    (b"OPTIONS sip:b@h SIP/2.0", MsgFault::NotSip),
+    (
+        b"OPTIONS  sip:b@h SIP/2.0\r\nv:SIP/2.0/UDP h;branch=z9hG4bKm\r\nf:<sip:a@h>;tag=1\r\nt:sip:b@h\r\ni:m\r\nCSeq:1 OPTIONS\r\n\r\n",
+        MsgFault::BadStartLine,
+    ),
+    (
+        b"OPTIONS sip:b@h  SIP/2.0\r\nv:SIP/2.0/UDP h;branch=z9hG4bKm\r\nf:<sip:a@h>;tag=1\r\nt:sip:b@h\r\ni:m\r\nCSeq:1 OPTIONS\r\n\r\n",
+        MsgFault::BadStartLine,
+    ),
+    (
+        b" OPTIONS sip:b@h SIP/2.0\r\nv:SIP/2.0/UDP h;branch=z9hG4bKm\r\nf:<sip:a@h>;tag=1\r\nt:sip:b@h\r\ni:m\r\nCSeq:1 OPTIONS\r\n\r\n",
+        MsgFault::BadStartLine,
+    ),
+    (
+        b"OPTIONS sip:b @h SIP/2.0\r\nv:SIP/2.0/UDP h;branch=z9hG4bKm\r\nf:<sip:a@h>;tag=1\r\nt:sip:b@h\r\ni:m\r\nCSeq:1 OPTIONS\r\n\r\n",
+        MsgFault::BadStartLine,
+    ),
+    (
+        b"OPTIONS sip:b@h SIP/3.0\r\nv:SIP/2.0/UDP h;branch=z9hG4bKm\r\nf:<sip:a@h>;tag=1\r\nt:sip:b@h\r\ni:m\r\nCSeq:1 OPTIONS\r\n\r\n",
+        MsgFault::BadStartLine,
+    ),
+    (
+        b"OPTIONS SIP/2.0\r\nv:SIP/2.0/UDP h;branch=z9hG4bKm\r\nf:<sip:a@h>;tag=1\r\nt:sip:b@h\r\ni:m\r\nCSeq:1 OPTIONS\r\n\r\n",
+        MsgFault::BadStartLine,
+    ),
+    (
+        b"OPTIONS sip:b@h SIP/2.0\r\nv:SIP/2.0/UDP h;branch=z9hG4bKm\r\nf:<sip:a@h>;tag=1\r\nt:sip:b@h\r\ni:m\r\nCSeq:1 OPTIONS\r\n",
+        MsgFault::BadHeader,
+    ),
+    (
+        b"OPTIONS sip:b@h SIP/2.0\r\n v:SIP/2.0/UDP h;branch=z9hG4bKm\r\nf:<sip:a@h>;tag=1\r\nt:sip:b@h\r\ni:m\r\nCSeq:1 OPTIONS\r\n\r\n",
+        MsgFault::BadHeader,
+    ),
+    (
+        b"OPTIONS sip:b@h SIP/2.0\r\nv:SIP/2.0/UDP h;branch=z9hG4bKm\r\nf:<sip:a@h>;tag=1\r\nt:sip:b@h\r\ni:m\r\nCSeq:1 OPTIONS\r\nX\r\n\r\n",
+        MsgFault::BadHeader,
+    ),
+    (
+        b"OPTIONS sip:b@h SIP/2.0\r\nf:<sip:a@h>;tag=1\r\nt:sip:b@h\r\ni:m\r\nCSeq:1 OPTIONS\r\n\r\n",
+        MsgFault::Missing,
+    ),
+    (
+        b"OPTIONS sip:b@h SIP/2.0\r\nv:SIP/2.0/UDP h;branch=z9hG4bKm\r\nt:sip:b@h\r\ni:m\r\nCSeq:1 OPTIONS\r\n\r\n",
+        MsgFault::Missing,
+    ),
+    (
+        b"OPTIONS sip:b@h SIP/2.0\r\nv:SIP/2.0/UDP h;branch=z9hG4bKm\r\nf:<sip:a@h>;tag=1\r\ni:m\r\nCSeq:1 OPTIONS\r\n\r\n",
+        MsgFault::Missing,
+    ),
+    (
+        b"OPTIONS sip:b@h SIP/2.0\r\nv:SIP/2.0/UDP h;branch=z9hG4bKm\r\nf:<sip:a@h>;tag=1\r\nt:sip:b@h\r\nCSeq:1 OPTIONS\r\n\r\n",
+        MsgFault::Missing,
+    ),
+    (
+        b"OPTIONS sip:b@h SIP/2.0\r\nv:SIP/2.0/UDP h;branch=z9hG4bKm\r\nf:<sip:a@h>;tag=1\r\nt:sip:b@h\r\ni:m\r\n\r\n",
+        MsgFault::Missing,
+    ),
+    (
+        b"OPTIONS sip:b@h SIP/2.0\r\nv:SIP/2.0/UDP h;branch=z9hG4bKm\r\nf:<sip:a@h>;tag=1\r\nt:sip:b@h\r\ni:m\r\nCSeq:1 OPTIONS\r\nf:<sip:a@h>;tag=1\r\n\r\n",
+        MsgFault::Repeated,
+    ),
+    (
+        b"OPTIONS sip:b@h SIP/2.0\r\nv:SIP/2.0/UDP h;branch=z9hG4bKm\r\nf:<sip:a@h>;tag=1\r\nt:sip:b@h\r\ni:m\r\nCSeq:1 OPTIONS\r\nt:sip:b@h\r\n\r\n",
+        MsgFault::Repeated,
+    ),
+    (
+        b"OPTIONS sip:b@h SIP/2.0\r\nv:SIP/2.0/UDP h;branch=z9hG4bKm\r\nf:<sip:a@h>;tag=1\r\nt:sip:b@h\r\ni:m\r\nCSeq:1 OPTIONS\r\ni:m\r\n\r\n",
+        MsgFault::Repeated,
+    ),
+    (
+        b"OPTIONS sip:b@h SIP/2.0\r\nv:SIP/2.0/UDP h;branch=z9hG4bKm\r\nf:<sip:a@h>;tag=1\r\nt:sip:b@h\r\ni:m\r\nCSeq:1 OPTIONS\r\nCSeq:1 OPTIONS\r\n\r\n",
+        MsgFault::Repeated,
+    ),
+    (
+        b"OPTIONS sip:b@h SIP/2.0\r\nv:SIP/2.0/UDP h;branch=z9hG4bKm\r\nf:<sip:a@h>;tag=1\r\nt:sip:b@h\r\ni:m\r\nCSeq:1 OPTIONS\r\nMax-Forwards:1\r\nMax-Forwards:1\r\n\r\n",
+        MsgFault::Repeated,
+    ),
+    (
+        b"OPTIONS sip:b@h SIP/2.0\r\nv:SIP/2.0/UDP h;branch=z9hG4bKm\r\nf:<sip:a@h>;tag=1\r\nt:sip:b@h\r\ni:m\r\nCSeq:1 OPTIONS\r\nl:0\r\nl:0\r\n\r\n",
+        MsgFault::Repeated,
+    ),
+    (
+        b"OPTIONS sip:b@h SIP/2.0\r\nv:SIP/2.0/UDP\r\nf:<sip:a@h>;tag=1\r\nt:sip:b@h\r\ni:m\r\nCSeq:1 OPTIONS\r\n\r\n",
+        MsgFault::BadField,
+    ),
+    (
+        b"OPTIONS sip:b@h SIP/2.0\r\nv:SIP/2.0/UDP h;branch=z9hG4bKm\r\nf:<sip:a@h>;tag=1\r\nt:sip:b@h\r\ni:m\r\nCSeq:1 OPTIONS\r\nv:SIP/2.0/UDP\r\n\r\n",
+        MsgFault::BadField,
+    ),
+    (
+        b"OPTIONS sip:b@h SIP/2.0\r\nv:SIP/2.0/UDP h;branch=z9hG4bKm,\r\nf:<sip:a@h>;tag=1\r\nt:sip:b@h\r\ni:m\r\nCSeq:1 OPTIONS\r\n\r\n",
+        MsgFault::BadField,
+    ),
+    (
+        b"OPTIONS sip:b@h SIP/2.0\r\nv:SIP/2.0/UDP h;branch=z9hG4bKm\r\nf:<sip:a@h>,<sip:c@h>\r\nt:sip:b@h\r\ni:m\r\nCSeq:1 OPTIONS\r\n\r\n",
+        MsgFault::BadField,
+    ),
+    (
+        b"OPTIONS sip:b@h SIP/2.0\r\nv:SIP/2.0/UDP h;branch=z9hG4bKm\r\nf:<sip\r\nt:sip:b@h\r\ni:m\r\nCSeq:1 OPTIONS\r\n\r\n",
+        MsgFault::BadField,
+    ),
+    (
+        b"OPTIONS sip:b@h SIP/2.0\r\nv:SIP/2.0/UDP h;branch=z9hG4bKm\r\nf:<sip:a@h>;tag=1\r\nt:b\r\ni:m\r\nCSeq:1 OPTIONS\r\n\r\n",
+        MsgFault::BadField,
+    ),
+    (
+        b"OPTIONS sip:b@h SIP/2.0\r\nv:SIP/2.0/UDP h;branch=z9hG4bKm\r\nf:<sip:a@h>;tag=1\r\nt:sip:b@h,sip:c@h\r\ni:m\r\nCSeq:1 OPTIONS\r\n\r\n",
+        MsgFault::BadField,
+    ),
+    (
+        b"OPTIONS sip:b@h SIP/2.0\r\nv:SIP/2.0/UDP h;branch=z9hG4bKm\r\nf:<sip:a@h>;tag=1\r\nt:sip:b@h\r\ni:a b\r\nCSeq:1 OPTIONS\r\n\r\n",
+        MsgFault::BadField,
+    ),
+    (
+        b"OPTIONS sip:b@h SIP/2.0\r\nv:SIP/2.0/UDP h;branch=z9hG4bKm\r\nf:<sip:a@h>;tag=1\r\nt:sip:b@h\r\ni: \r\nCSeq:1 OPTIONS\r\n\r\n",
+        MsgFault::BadField,
+    ),
+    (
+        b"OPTIONS sip:b@h SIP/2.0\r\nv:SIP/2.0/UDP h;branch=z9hG4bKm\r\nf:<sip:a@h>;tag=1\r\nt:sip:b@h\r\ni:m\r\nCSeq:2147483648 OPTIONS\r\n\r\n",
+        MsgFault::BadField,
+    ),
+    (
+        b"OPTIONS sip:b@h SIP/2.0\r\nv:SIP/2.0/UDP h;branch=z9hG4bKm\r\nf:<sip:a@h>;tag=1\r\nt:sip:b@h\r\ni:m\r\nCSeq:1 OPTIONS\r\nMax-Forwards:256\r\n\r\n",
+        MsgFault::BadField,
+    ),
+    (
+        b"OPTIONS sip:b@h SIP/2.0\r\nv:SIP/2.0/UDP h;branch=z9hG4bKm\r\nf:<sip:a@h>;tag=1\r\nt:sip:b@h\r\ni:m\r\nCSeq:1 OPTIONS\r\nMax-Forwards:0070\r\n\r\n",
+        MsgFault::BadField,
+    ),
+    (
+        b"OPTIONS sip:b@h SIP/2.0\r\nv:SIP/2.0/UDP h;branch=z9hG4bKm\r\nf:<sip:a@h>;tag=1\r\nt:sip:b@h\r\ni:m\r\nCSeq:1 OPTIONS\r\nMax-Forwards:\r\n\r\n",
+        MsgFault::BadField,
+    ),
+    (
+        b"OPTIONS sip:b@h SIP/2.0\r\nv:SIP/2.0/UDP h;branch=z9hG4bKm\r\nf:<sip:a@h>;tag=1\r\nt:sip:b@h\r\ni:m\r\nCSeq:1 OPTIONS\r\nl:12345678901\r\n\r\n",
+        MsgFault::BadField,
+    ),
+    (
+        b"OPTIONS sip:b@h SIP/2.0\r\nv:SIP/2.0/UDP h;branch=z9hG4bKm\r\nf:<sip:a@h>;tag=1\r\nt:sip:b@h\r\ni:m\r\nCSeq:1 OPTIONS\r\nl:-1\r\n\r\n",
+        MsgFault::BadField,
+    ),
+    (
+        b"OPTIONS sip:b@h SIP/2.0\r\nv:SIP/2.0/UDP h;branch=z9hG4bKm\r\nf:<sip:a@h>;tag=1\r\nt:sip:b@h\r\ni:m\r\nCSeq:1 OPTIONS\r\nRoute:sip:p\r\n\r\n",
+        MsgFault::BadField,
+    ),
+    (
+        b"OPTIONS sip:b@h SIP/2.0\r\nv:SIP/2.0/UDP h;branch=z9hG4bKm\r\nf:<sip:a@h>;tag=1\r\nt:sip:b@h\r\ni:m\r\nCSeq:1 OPTIONS\r\nRoute:<sip:p>,\r\n\r\n",
+        MsgFault::BadField,
+    ),
+    (
+        b"OPTIONS sip:b@h SIP/2.0\r\nv:SIP/2.0/UDP h;branch=z9hG4bKm\r\nf:<sip:a@h>;tag=1\r\nt:sip:b@h\r\ni:m\r\nCSeq:1 OPTIONS\r\nRoute:<sip:p>\r\nRoute:<sip:p>,sip:q\r\n\r\n",
+        MsgFault::BadField,
+    ),
+    (
+        b"OPTIONS sip:b@h SIP/2.0\r\nv:SIP/2.0/UDP h;branch=z9hG4bKm\r\nf:<sip:a@h>;tag=1\r\nt:sip:b@h\r\ni:m\r\nCSeq:1 BYE\r\n\r\n",
+        MsgFault::BadField,
+    ),
+    (
+        b"OPTIONS sip:b@h SIP/2.0\r\nv:SIP/2.0/UDP h;branch=z9hG4bKm\r\nf:<sip:a@h>;tag=1\r\nt:sip:b@h\r\ni:m\r\nCSeq:1 options\r\n\r\n",
+        MsgFault::BadField,
+    ),
+    (
+        b"OPTIONS sip:b@h SIP/2.0\r\nv:SIP/2.0/UDP h\r\nf:<sip:a@h>;tag=1\r\nt:sip:b@h\r\ni:m\r\nCSeq:1 OPTIONS\r\n\r\n",
+        MsgFault::BadField,
+    ),
+    (
+        b"OPTIONS sip:b@h SIP/2.0\r\nv:SIP/2.0/UDP h;branch=Z9hG4bKm\r\nf:<sip:a@h>;tag=1\r\nt:sip:b@h\r\ni:m\r\nCSeq:1 OPTIONS\r\n\r\n",
+        MsgFault::BadField,
+    ),
+    (
+        b"OPTIONS sip:b@h SIP/2.0\r\nv:SIP/2.0/UDP h;branch=\"z9hG4bKm\"\r\nf:<sip:a@h>;tag=1\r\nt:sip:b@h\r\ni:m\r\nCSeq:1 OPTIONS\r\n\r\n",
+        MsgFault::BadField,
+    ),
+    (
+        b"OPTIONS sip:b@h SIP/2.0\r\nv:SIP/2.0/UDP h;branch=z9hG4bKm\r\nf:<sip:a@h>;tag=1\r\nt:sip:b@h\r\ni:m\r\nCSeq:1 OPTIONS\r\nl:1\r\n\r\n",
+        MsgFault::ShortBody,
+    ),
+    (
+        b"OPTIONS sip:b@h SIP/2.0\r\nv:SIP/2.0/UDP h;branch=z9hG4bKm\r\nf:<sip:a@h>;tag=1\r\nt:sip:b@h\r\ni:m\r\nCSeq:1 OPTIONS\r\nl:5\r\n\r\nabcd",
+        MsgFault::ShortBody,
+    ),
+];
 
 #[test]
 fn each_fault_alone(rt: HostRuntime) {
-    refuses(&rt, b"\r\n\r\n", MsgFault::NotSip);
-    refuses(&rt, b"GET / HTTP/1.1\r\n\r\n", MsgFault::NotSip);
-    refuses(&rt, b"OPTIONS sip:b@h SIP/2.0", MsgFault::NotSip);
-    refuses(
-        &rt,
-        b"OPTIONS  sip:b@h SIP/2.0\r\nv:SIP/2.0/UDP h;branch=z9hG4bKm\r\nf:<sip:a@h>;tag=1\r\nt:sip:b@h\r\ni:m\r\nCSeq:1 OPTIONS\r\n\r\n",
-        MsgFault::BadStartLine,
-    );
-    refuses(
-        &rt,
-        b"OPTIONS sip:b@h  SIP/2.0\r\nv:SIP/2.0/UDP h;branch=z9hG4bKm\r\nf:<sip:a@h>;tag=1\r\nt:sip:b@h\r\ni:m\r\nCSeq:1 OPTIONS\r\n\r\n",
-        MsgFault::BadStartLine,
-    );
-    refuses(
-        &rt,
-        b" OPTIONS sip:b@h SIP/2.0\r\nv:SIP/2.0/UDP h;branch=z9hG4bKm\r\nf:<sip:a@h>;tag=1\r\nt:sip:b@h\r\ni:m\r\nCSeq:1 OPTIONS\r\n\r\n",
-        MsgFault::BadStartLine,
-    );
-    refuses(
-        &rt,
-        b"OPTIONS sip:b @h SIP/2.0\r\nv:SIP/2.0/UDP h;branch=z9hG4bKm\r\nf:<sip:a@h>;tag=1\r\nt:sip:b@h\r\ni:m\r\nCSeq:1 OPTIONS\r\n\r\n",
-        MsgFault::BadStartLine,
-    );
-    refuses(
-        &rt,
-        b"OPTIONS sip:b@h SIP/3.0\r\nv:SIP/2.0/UDP h;branch=z9hG4bKm\r\nf:<sip:a@h>;tag=1\r\nt:sip:b@h\r\ni:m\r\nCSeq:1 OPTIONS\r\n\r\n",
-        MsgFault::BadStartLine,
-    );
-    refuses(
-        &rt,
-        b"OPTIONS SIP/2.0\r\nv:SIP/2.0/UDP h;branch=z9hG4bKm\r\nf:<sip:a@h>;tag=1\r\nt:sip:b@h\r\ni:m\r\nCSeq:1 OPTIONS\r\n\r\n",
-        MsgFault::BadStartLine,
-    );
-    refuses(
-        &rt,
-        b"OPTIONS sip:b@h SIP/2.0\r\nv:SIP/2.0/UDP h;branch=z9hG4bKm\r\nf:<sip:a@h>;tag=1\r\nt:sip:b@h\r\ni:m\r\nCSeq:1 OPTIONS\r\n",
-        MsgFault::BadHeader,
-    );
-    refuses(
-        &rt,
-        b"OPTIONS sip:b@h SIP/2.0\r\n v:SIP/2.0/UDP h;branch=z9hG4bKm\r\nf:<sip:a@h>;tag=1\r\nt:sip:b@h\r\ni:m\r\nCSeq:1 OPTIONS\r\n\r\n",
-        MsgFault::BadHeader,
-    );
-    refuses(
-        &rt,
-        b"OPTIONS sip:b@h SIP/2.0\r\nv:SIP/2.0/UDP h;branch=z9hG4bKm\r\nf:<sip:a@h>;tag=1\r\nt:sip:b@h\r\ni:m\r\nCSeq:1 OPTIONS\r\nX\r\n\r\n",
-        MsgFault::BadHeader,
-    );
-    refuses(
-        &rt,
-        b"OPTIONS sip:b@h SIP/2.0\r\nf:<sip:a@h>;tag=1\r\nt:sip:b@h\r\ni:m\r\nCSeq:1 OPTIONS\r\n\r\n",
-        MsgFault::Missing,
-    );
-    refuses(
-        &rt,
-        b"OPTIONS sip:b@h SIP/2.0\r\nv:SIP/2.0/UDP h;branch=z9hG4bKm\r\nt:sip:b@h\r\ni:m\r\nCSeq:1 OPTIONS\r\n\r\n",
-        MsgFault::Missing,
-    );
-    refuses(
-        &rt,
-        b"OPTIONS sip:b@h SIP/2.0\r\nv:SIP/2.0/UDP h;branch=z9hG4bKm\r\nf:<sip:a@h>;tag=1\r\ni:m\r\nCSeq:1 OPTIONS\r\n\r\n",
-        MsgFault::Missing,
-    );
-    refuses(
-        &rt,
-        b"OPTIONS sip:b@h SIP/2.0\r\nv:SIP/2.0/UDP h;branch=z9hG4bKm\r\nf:<sip:a@h>;tag=1\r\nt:sip:b@h\r\nCSeq:1 OPTIONS\r\n\r\n",
-        MsgFault::Missing,
-    );
-    refuses(
-        &rt,
-        b"OPTIONS sip:b@h SIP/2.0\r\nv:SIP/2.0/UDP h;branch=z9hG4bKm\r\nf:<sip:a@h>;tag=1\r\nt:sip:b@h\r\ni:m\r\n\r\n",
-        MsgFault::Missing,
-    );
-    refuses(
-        &rt,
-        b"OPTIONS sip:b@h SIP/2.0\r\nv:SIP/2.0/UDP h;branch=z9hG4bKm\r\nf:<sip:a@h>;tag=1\r\nt:sip:b@h\r\ni:m\r\nCSeq:1 OPTIONS\r\nf:<sip:a@h>;tag=1\r\n\r\n",
-        MsgFault::Repeated,
-    );
-    refuses(
-        &rt,
-        b"OPTIONS sip:b@h SIP/2.0\r\nv:SIP/2.0/UDP h;branch=z9hG4bKm\r\nf:<sip:a@h>;tag=1\r\nt:sip:b@h\r\ni:m\r\nCSeq:1 OPTIONS\r\nt:sip:b@h\r\n\r\n",
-        MsgFault::Repeated,
-    );
-    refuses(
-        &rt,
-        b"OPTIONS sip:b@h SIP/2.0\r\nv:SIP/2.0/UDP h;branch=z9hG4bKm\r\nf:<sip:a@h>;tag=1\r\nt:sip:b@h\r\ni:m\r\nCSeq:1 OPTIONS\r\ni:m\r\n\r\n",
-        MsgFault::Repeated,
-    );
-    refuses(
-        &rt,
-        b"OPTIONS sip:b@h SIP/2.0\r\nv:SIP/2.0/UDP h;branch=z9hG4bKm\r\nf:<sip:a@h>;tag=1\r\nt:sip:b@h\r\ni:m\r\nCSeq:1 OPTIONS\r\nCSeq:1 OPTIONS\r\n\r\n",
-        MsgFault::Repeated,
-    );
-    refuses(
-        &rt,
-        b"OPTIONS sip:b@h SIP/2.0\r\nv:SIP/2.0/UDP h;branch=z9hG4bKm\r\nf:<sip:a@h>;tag=1\r\nt:sip:b@h\r\ni:m\r\nCSeq:1 OPTIONS\r\nMax-Forwards:1\r\nMax-Forwards:1\r\n\r\n",
-        MsgFault::Repeated,
-    );
-    refuses(
-        &rt,
-        b"OPTIONS sip:b@h SIP/2.0\r\nv:SIP/2.0/UDP h;branch=z9hG4bKm\r\nf:<sip:a@h>;tag=1\r\nt:sip:b@h\r\ni:m\r\nCSeq:1 OPTIONS\r\nl:0\r\nl:0\r\n\r\n",
-        MsgFault::Repeated,
-    );
-    refuses(
-        &rt,
-        b"OPTIONS sip:b@h SIP/2.0\r\nv:SIP/2.0/UDP\r\nf:<sip:a@h>;tag=1\r\nt:sip:b@h\r\ni:m\r\nCSeq:1 OPTIONS\r\n\r\n",
-        MsgFault::BadField,
-    );
-    refuses(
-        &rt,
-        b"OPTIONS sip:b@h SIP/2.0\r\nv:SIP/2.0/UDP h;branch=z9hG4bKm\r\nf:<sip:a@h>;tag=1\r\nt:sip:b@h\r\ni:m\r\nCSeq:1 OPTIONS\r\nv:SIP/2.0/UDP\r\n\r\n",
-        MsgFault::BadField,
-    );
-    refuses(
-        &rt,
-        b"OPTIONS sip:b@h SIP/2.0\r\nv:SIP/2.0/UDP h;branch=z9hG4bKm,\r\nf:<sip:a@h>;tag=1\r\nt:sip:b@h\r\ni:m\r\nCSeq:1 OPTIONS\r\n\r\n",
-        MsgFault::BadField,
-    );
-    refuses(
-        &rt,
-        b"OPTIONS sip:b@h SIP/2.0\r\nv:SIP/2.0/UDP h;branch=z9hG4bKm\r\nf:<sip:a@h>,<sip:c@h>\r\nt:sip:b@h\r\ni:m\r\nCSeq:1 OPTIONS\r\n\r\n",
-        MsgFault::BadField,
-    );
-    refuses(
-        &rt,
-        b"OPTIONS sip:b@h SIP/2.0\r\nv:SIP/2.0/UDP h;branch=z9hG4bKm\r\nf:<sip\r\nt:sip:b@h\r\ni:m\r\nCSeq:1 OPTIONS\r\n\r\n",
-        MsgFault::BadField,
-    );
-    refuses(
-        &rt,
-        b"OPTIONS sip:b@h SIP/2.0\r\nv:SIP/2.0/UDP h;branch=z9hG4bKm\r\nf:<sip:a@h>;tag=1\r\nt:b\r\ni:m\r\nCSeq:1 OPTIONS\r\n\r\n",
-        MsgFault::BadField,
-    );
-    refuses(
-        &rt,
-        b"OPTIONS sip:b@h SIP/2.0\r\nv:SIP/2.0/UDP h;branch=z9hG4bKm\r\nf:<sip:a@h>;tag=1\r\nt:sip:b@h,sip:c@h\r\ni:m\r\nCSeq:1 OPTIONS\r\n\r\n",
-        MsgFault::BadField,
-    );
-    refuses(
-        &rt,
-        b"OPTIONS sip:b@h SIP/2.0\r\nv:SIP/2.0/UDP h;branch=z9hG4bKm\r\nf:<sip:a@h>;tag=1\r\nt:sip:b@h\r\ni:a b\r\nCSeq:1 OPTIONS\r\n\r\n",
-        MsgFault::BadField,
-    );
-    refuses(
-        &rt,
-        b"OPTIONS sip:b@h SIP/2.0\r\nv:SIP/2.0/UDP h;branch=z9hG4bKm\r\nf:<sip:a@h>;tag=1\r\nt:sip:b@h\r\ni: \r\nCSeq:1 OPTIONS\r\n\r\n",
-        MsgFault::BadField,
-    );
-    refuses(
-        &rt,
-        b"OPTIONS sip:b@h SIP/2.0\r\nv:SIP/2.0/UDP h;branch=z9hG4bKm\r\nf:<sip:a@h>;tag=1\r\nt:sip:b@h\r\ni:m\r\nCSeq:2147483648 OPTIONS\r\n\r\n",
-        MsgFault::BadField,
-    );
-    refuses(
-        &rt,
-        b"OPTIONS sip:b@h SIP/2.0\r\nv:SIP/2.0/UDP h;branch=z9hG4bKm\r\nf:<sip:a@h>;tag=1\r\nt:sip:b@h\r\ni:m\r\nCSeq:1 OPTIONS\r\nMax-Forwards:256\r\n\r\n",
-        MsgFault::BadField,
-    );
-    refuses(
-        &rt,
-        b"OPTIONS sip:b@h SIP/2.0\r\nv:SIP/2.0/UDP h;branch=z9hG4bKm\r\nf:<sip:a@h>;tag=1\r\nt:sip:b@h\r\ni:m\r\nCSeq:1 OPTIONS\r\nMax-Forwards:0070\r\n\r\n",
-        MsgFault::BadField,
-    );
-    refuses(
-        &rt,
-        b"OPTIONS sip:b@h SIP/2.0\r\nv:SIP/2.0/UDP h;branch=z9hG4bKm\r\nf:<sip:a@h>;tag=1\r\nt:sip:b@h\r\ni:m\r\nCSeq:1 OPTIONS\r\nMax-Forwards:\r\n\r\n",
-        MsgFault::BadField,
-    );
-    refuses(
-        &rt,
-        b"OPTIONS sip:b@h SIP/2.0\r\nv:SIP/2.0/UDP h;branch=z9hG4bKm\r\nf:<sip:a@h>;tag=1\r\nt:sip:b@h\r\ni:m\r\nCSeq:1 OPTIONS\r\nl:12345678901\r\n\r\n",
-        MsgFault::BadField,
-    );
-    refuses(
-        &rt,
-        b"OPTIONS sip:b@h SIP/2.0\r\nv:SIP/2.0/UDP h;branch=z9hG4bKm\r\nf:<sip:a@h>;tag=1\r\nt:sip:b@h\r\ni:m\r\nCSeq:1 OPTIONS\r\nl:-1\r\n\r\n",
-        MsgFault::BadField,
-    );
-    refuses(
-        &rt,
-        b"OPTIONS sip:b@h SIP/2.0\r\nv:SIP/2.0/UDP h;branch=z9hG4bKm\r\nf:<sip:a@h>;tag=1\r\nt:sip:b@h\r\ni:m\r\nCSeq:1 OPTIONS\r\nRoute:sip:p\r\n\r\n",
-        MsgFault::BadField,
-    );
-    refuses(
-        &rt,
-        b"OPTIONS sip:b@h SIP/2.0\r\nv:SIP/2.0/UDP h;branch=z9hG4bKm\r\nf:<sip:a@h>;tag=1\r\nt:sip:b@h\r\ni:m\r\nCSeq:1 OPTIONS\r\nRoute:<sip:p>,\r\n\r\n",
-        MsgFault::BadField,
-    );
-    refuses(
-        &rt,
-        b"OPTIONS sip:b@h SIP/2.0\r\nv:SIP/2.0/UDP h;branch=z9hG4bKm\r\nf:<sip:a@h>;tag=1\r\nt:sip:b@h\r\ni:m\r\nCSeq:1 OPTIONS\r\nRoute:<sip:p>\r\nRoute:<sip:p>,sip:q\r\n\r\n",
-        MsgFault::BadField,
-    );
-    refuses(
-        &rt,
-        b"OPTIONS sip:b@h SIP/2.0\r\nv:SIP/2.0/UDP h;branch=z9hG4bKm\r\nf:<sip:a@h>;tag=1\r\nt:sip:b@h\r\ni:m\r\nCSeq:1 BYE\r\n\r\n",
-        MsgFault::BadField,
-    );
-    refuses(
-        &rt,
-        b"OPTIONS sip:b@h SIP/2.0\r\nv:SIP/2.0/UDP h;branch=z9hG4bKm\r\nf:<sip:a@h>;tag=1\r\nt:sip:b@h\r\ni:m\r\nCSeq:1 options\r\n\r\n",
-        MsgFault::BadField,
-    );
-    refuses(
-        &rt,
-        b"OPTIONS sip:b@h SIP/2.0\r\nv:SIP/2.0/UDP h\r\nf:<sip:a@h>;tag=1\r\nt:sip:b@h\r\ni:m\r\nCSeq:1 OPTIONS\r\n\r\n",
-        MsgFault::BadField,
-    );
-    refuses(
-        &rt,
-        b"OPTIONS sip:b@h SIP/2.0\r\nv:SIP/2.0/UDP h;branch=Z9hG4bKm\r\nf:<sip:a@h>;tag=1\r\nt:sip:b@h\r\ni:m\r\nCSeq:1 OPTIONS\r\n\r\n",
-        MsgFault::BadField,
-    );
-    refuses(
-        &rt,
-        b"OPTIONS sip:b@h SIP/2.0\r\nv:SIP/2.0/UDP h;branch=\"z9hG4bKm\"\r\nf:<sip:a@h>;tag=1\r\nt:sip:b@h\r\ni:m\r\nCSeq:1 OPTIONS\r\n\r\n",
-        MsgFault::BadField,
-    );
-    refuses(
-        &rt,
-        b"OPTIONS sip:b@h SIP/2.0\r\nv:SIP/2.0/UDP h;branch=z9hG4bKm\r\nf:<sip:a@h>;tag=1\r\nt:sip:b@h\r\ni:m\r\nCSeq:1 OPTIONS\r\nl:1\r\n\r\n",
-        MsgFault::ShortBody,
-    );
-    refuses(
-        &rt,
-        b"OPTIONS sip:b@h SIP/2.0\r\nv:SIP/2.0/UDP h;branch=z9hG4bKm\r\nf:<sip:a@h>;tag=1\r\nt:sip:b@h\r\ni:m\r\nCSeq:1 OPTIONS\r\nl:5\r\n\r\nabcd",
-        MsgFault::ShortBody,
-    );
+    for (text, fault) in FAULTS {
+        refuses(&rt, text, fault);
+    }
 }
+
+/// Datagrams with two faults that are neighbours, and the one that is told.
+const NEIGHBOURS: [(&[u8], MsgFault); 5] = [
+    (b"OPTIONS  sip:b@h HTTP/2.0\r\n\r\n", MsgFault::NotSip),
+    (b"OPTIONS sip:b@h SIP/3.0\r\n bad", MsgFault::BadStartLine),
+    (
+        b"OPTIONS sip:b@h SIP/2.0\r\nv:SIP/2.0/UDP h;branch=z9hG4bKm\r\nf:<sip:a@h>;tag=1\r\nf:<sip:a@h>;tag=1\r\nt:sip:b@h\r\ni:m\r\n\r\n",
+        MsgFault::Missing,
+    ),
+    (
+        b"OPTIONS sip:b@h SIP/2.0\r\nv:SIP/2.0/UDP h;branch=z9hG4bKm\r\nf:<sip:a@h>;tag=1\r\nt:sip:b@h\r\ni:m\r\nCSeq:1 OPTIONS\r\nCSeq:x\r\n\r\n",
+        MsgFault::Repeated,
+    ),
+    (
+        b"OPTIONS sip:b@h SIP/2.0\r\nv:SIP/2.0/UDP h;branch=z9hG4bKm\r\nf:<sip:a@h>;tag=1\r\nt:sip:b@h\r\ni:m\r\nCSeq:1 BYE\r\nl:5\r\n\r\n",
+        MsgFault::BadField,
+    ),
+];
 
 /// Of two faults that are neighbours the earlier one is told. Others are in `limits`.
 #[test]
 fn the_earlier_fault_wins(rt: HostRuntime) {
-    refuses(&rt, b"OPTIONS  sip:b@h HTTP/2.0\r\n\r\n", MsgFault::NotSip);
-    refuses(
-        &rt,
-        b"OPTIONS sip:b@h SIP/3.0\r\n bad",
-        MsgFault::BadStartLine,
-    );
-    refuses(
-        &rt,
-        b"OPTIONS sip:b@h SIP/2.0\r\nv:SIP/2.0/UDP h;branch=z9hG4bKm\r\nf:<sip:a@h>;tag=1\r\nf:<sip:a@h>;tag=1\r\nt:sip:b@h\r\ni:m\r\n\r\n",
-        MsgFault::Missing,
-    );
-    refuses(
-        &rt,
-        b"OPTIONS sip:b@h SIP/2.0\r\nv:SIP/2.0/UDP h;branch=z9hG4bKm\r\nf:<sip:a@h>;tag=1\r\nt:sip:b@h\r\ni:m\r\nCSeq:1 OPTIONS\r\nCSeq:x\r\n\r\n",
-        MsgFault::Repeated,
-    );
-    refuses(
-        &rt,
-        b"OPTIONS sip:b@h SIP/2.0\r\nv:SIP/2.0/UDP h;branch=z9hG4bKm\r\nf:<sip:a@h>;tag=1\r\nt:sip:b@h\r\ni:m\r\nCSeq:1 BYE\r\nl:5\r\n\r\n",
-        MsgFault::BadField,
-    );
+    for (text, fault) in NEIGHBOURS {
+        refuses(&rt, text, fault);
+    }
 }
 
 /// The fault of this many fields `A:` behind a request line, and then `last`.
@@ -558,90 +517,73 @@ fn limits(rt: HostRuntime) {
     assert!(rt; Message::read(&text[..8192]).err() == Some(MsgFault::NotSip));
 }
 
-#[test]
-fn bases(rt: HostRuntime) {
-    has_basis(
-        &rt,
+/// Datagrams that have a basis, and whether their version is the one of SIP.
+const BASES: [(&[u8], bool); 9] = [
+    (
         b"OPTIONS sip:b@h SIP/2.0\r\nv:SIP/2.0/UDP h;branch=z9hG4bKm\r\nf:<sip:a@h>;tag=1\r\nt:sip:b@h\r\ni:m\r\nCSeq:1 OPTIONS\r\n\r\n",
         true,
-    );
-    has_basis(
-        &rt,
+    ),
+    (
         b"OPTIONS sip:b@h SIP/2.0\r\nv:SIP/2.0/UDP h;branch=z9hG4bKm\r\n\r\n",
         true,
-    );
-    has_basis(
-        &rt,
+    ),
+    (
         b"OPTIONS  sip:b@h SIP/2.0\r\nv:SIP/2.0/UDP h;branch=z9hG4bKm\r\n\r\n",
         true,
-    );
-    has_basis(
-        &rt,
+    ),
+    (
         b"OPTIONS sip:b@h  SIP/2.0\r\nv:SIP/2.0/UDP h;branch=z9hG4bKm\r\n\r\n",
         true,
-    );
-    has_basis(
-        &rt,
+    ),
+    (
         b"OPTIONS sip:b @h sip/2.0\r\nv:SIP/2.0/UDP h;branch=z9hG4bKm\r\n\r\n",
         true,
-    );
-    has_basis(
-        &rt,
+    ),
+    (
         b"ack sip:b@h SIP/2.0\r\nv:SIP/2.0/UDP h;branch=z9hG4bKm\r\n\r\n",
         true,
-    );
-    has_basis(
-        &rt,
+    ),
+    (
         b"OPTIONS sip:b@h SIP/3.0\r\nv:SIP/2.0/UDP h;branch=z9hG4bKm\r\n\r\n",
         false,
-    );
-    has_basis(
-        &rt,
+    ),
+    (
         b"OPTIONS sip:b@h SIP/02.0\r\nv:SIP/2.0/UDP h;branch=z9hG4bKm\r\n\r\n",
         false,
-    );
-    has_no_basis(
-        &rt,
-        b"OPTIONS sip:b@h SIP/2\r\nv:SIP/2.0/UDP h;branch=z9hG4bKm\r\n\r\n",
-    );
-    has_no_basis(
-        &rt,
-        b"OPTIONS SIP/2.0\r\nv:SIP/2.0/UDP h;branch=z9hG4bKm\r\n\r\n",
-    );
-    has_no_basis(
-        &rt,
-        b"OPTIONS  SIP/2.0\r\nv:SIP/2.0/UDP h;branch=z9hG4bKm\r\n\r\n",
-    );
-    has_no_basis(
-        &rt,
-        b" OPTIONS sip:b@h SIP/2.0\r\nv:SIP/2.0/UDP h;branch=z9hG4bKm\r\n\r\n",
-    );
-    has_no_basis(
-        &rt,
-        b"ACK sip:b@h SIP/2.0\r\nv:SIP/2.0/UDP h;branch=z9hG4bKm\r\n\r\n",
-    );
-    has_no_basis(
-        &rt,
-        b"SIP/2.0 200 OK\r\nv:SIP/2.0/UDP h;branch=z9hG4bKm\r\n\r\n",
-    );
-    has_no_basis(
-        &rt,
-        b"OPTIONS sip:b@h SIP/2.0\r\nv:SIP/2.0/UDP h;branch=z9hG4bKm\r\n",
-    );
-    has_no_basis(
-        &rt,
-        b"OPTIONS sip:b@h SIP/2.0\r\nX\r\nv:SIP/2.0/UDP h;branch=z9hG4bKm\r\n\r\n",
-    );
-    has_no_basis(&rt, b"OPTIONS sip:b@h SIP/2.0\r\nf:<sip:a@h>;tag=1\r\n\r\n");
-    has_no_basis(
-        &rt,
-        b"OPTIONS sip:b@h SIP/2.0\r\nv:SIP/2.0/UDP\r\nv:SIP/2.0/UDP h;branch=z9hG4bKm\r\n\r\n",
-    );
-    has_basis(
-        &rt,
+    ),
+    (
         b"OPTIONS sip:b@h SIP/2.0\r\nv:SIP/2.0/UDP h;branch=z9hG4bKm\r\nf:<sip:a@h>;tag=1\r\nt:sip:b@h\r\ni:m\r\nCSeq:1 OPTIONS\r\nl:9\r\n\r\n",
         true,
-    );
+    ),
+];
+
+/// Datagrams that have none.
+const NO_BASES: [&[u8]; 10] = [
+    b"OPTIONS sip:b@h SIP/2\r\nv:SIP/2.0/UDP h;branch=z9hG4bKm\r\n\r\n",
+    b"OPTIONS SIP/2.0\r\nv:SIP/2.0/UDP h;branch=z9hG4bKm\r\n\r\n",
+    b"OPTIONS  SIP/2.0\r\nv:SIP/2.0/UDP h;branch=z9hG4bKm\r\n\r\n",
+    b" OPTIONS sip:b@h SIP/2.0\r\nv:SIP/2.0/UDP h;branch=z9hG4bKm\r\n\r\n",
+    b"ACK sip:b@h SIP/2.0\r\nv:SIP/2.0/UDP h;branch=z9hG4bKm\r\n\r\n",
+    b"SIP/2.0 200 OK\r\nv:SIP/2.0/UDP h;branch=z9hG4bKm\r\n\r\n",
+    b"OPTIONS sip:b@h SIP/2.0\r\nv:SIP/2.0/UDP h;branch=z9hG4bKm\r\n",
+    b"OPTIONS sip:b@h SIP/2.0\r\nX\r\nv:SIP/2.0/UDP h;branch=z9hG4bKm\r\n\r\n",
+    b"OPTIONS sip:b@h SIP/2.0\r\nf:<sip:a@h>;tag=1\r\n\r\n",
+    b"OPTIONS sip:b@h SIP/2.0\r\nv:SIP/2.0/UDP\r\nv:SIP/2.0/UDP h;branch=z9hG4bKm\r\n\r\n",
+];
+
+#[test]
+fn bases(rt: HostRuntime) {
+    for (text, version_ok) in BASES {
+        has_basis(&rt, text, version_ok);
+    }
+    for text in NO_BASES {
+        has_no_basis(&rt, text);
+    }
+}
+
+/// The first 8,192 bytes alone are looked at.
+#[test]
+fn a_basis_of_a_datagram_that_is_too_long(rt: HostRuntime) {
     let mut text = [b'x'; 8193];
     text[..60].copy_from_slice(
         b"OPTIONS sip:b@h SIP/2.0\r\nv:SIP/2.0/UDP h;branch=z9hG4bKm\r\n\r\n",

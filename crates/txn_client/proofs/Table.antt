@@ -8,26 +8,26 @@ use Rattle.txn_client.specs.declared.machine.ClientState.{ClientState}
 use Rattle.txn_client.specs.declared.machine.ClientState.TheVariants.{Calling, Trying, Proceeding, Accepted, Completed}
 use Rattle.txn_client.specs.declared.machine.ClientTimer.TheVariants.{Retry, Limit, Linger}
 use Rattle.txn_client.specs.Rows
-use Rattle.txn_client.specs.Rows.{ClientRow, NoClientRow, ClientStep, Invite, Other, silent}
-use Rattle.txn_client.specs.After.{if_armed, made_at, client_after, Makes}
+use Rattle.txn_client.specs.Rows.{ClientRow, NoClientRow, ClientStep, InviteClient, OtherClient, client_silent}
+use Rattle.txn_client.specs.After.{client_if_armed, client_made_at, client_after, MakesClient}
 
 -- what the row for the client's kind and state makes
 at : (i : Bool) (s : ClientState) (event : ClientEvent) (old : Client) (now : ℕ) (made : Option (Client × ClientActs)) →
-    (old.invite ≡ i) × (old.state ≡ s) → made_at i s event old now ≡ made →
-    made_at old.invite old.state event old now ≡ made
+    (old.invite ≡ i) × (old.state ≡ s) → client_made_at i s event old now ≡ made →
+    client_made_at old.invite old.state event old now ≡ made
 at i s event old now made here is = cc
 
 pub either : {A B : Type 0} (P : Type 0) → A ⊎ B → (A → P) → (B → P) → P
 either P (inl a) f g = f a
 either P (inr b) f g = g b
 
-armed : (timer : Option ℕ) (made : Client × ClientActs) → IsSome timer → if_armed timer made ≡ Some made
+armed : (timer : Option ℕ) (made : Client × ClientActs) → IsSome timer → client_if_armed timer made ≡ Some made
 armed None made h = cc
 armed (Some due) made h = refl
 
 -- what a row makes is what the function gives
 pub row_made : (old : Client) (now : ℕ) (event : ClientEvent) (new : Client) (acts : ClientActs) → ClientRow old now event new acts →
-    made_at old.invite old.state event old now ≡ Some (new, acts)
+    client_made_at old.invite old.state event old now ≡ Some (new, acts)
 row_made old now _ _ _ (Rows.calling_start here) = at true Calling _ old now _ here refl
 row_made old now _ _ _ (Rows.calling_a here due) = at true Calling _ old now _ here (armed _ _ due)
 row_made old now _ _ _ (Rows.calling_b here due) = at true Calling _ old now _ here (armed _ _ due)
@@ -50,7 +50,7 @@ row_made old now _ _ _ (Rows.completed_k here due) = at false Completed _ old no
 some_is : (made made' : Client × ClientActs) → Some made ≡ Some made' → made ≡ made'
 some_is made made' e = cc
 
-when_armed : (timer : Option ℕ) (made made' : Client × ClientActs) → if_armed timer made ≡ Some made' → IsSome timer × (made ≡ made')
+when_armed : (timer : Option ℕ) (made made' : Client × ClientActs) → client_if_armed timer made ≡ Some made' → IsSome timer × (made ≡ made')
 when_armed None made made' e = cc
 when_armed (Some due) made made' e = (refl, cc)
 
@@ -60,7 +60,7 @@ module _ (old : Client) (now : ℕ) where
 
   -- what the function gives is what a row makes
   pub made_row : (i : Bool) (s : ClientState) (event : ClientEvent) (made : Client × ClientActs) → old.invite ≡ i → old.state ≡ s →
-      made_at i s event old now ≡ Some made → ClientRow old now event made.0 made.1
+      client_made_at i s event old now ≡ Some made → ClientRow old now event made.0 made.1
   made_row true Calling Start made hi hs e = by_equation _ _ _ (some_is _ _ e) (Rows.calling_start (hi, hs))
   made_row true Calling (Timer Retry) made hi hs e = let w = when_armed _ _ _ e in by_equation _ _ _ w.1 (Rows.calling_a (hi, hs) w.0)
   made_row true Calling (Timer Limit) made hi hs e = let w = when_armed _ _ _ e in by_equation _ _ _ w.1 (Rows.calling_b (hi, hs) w.0)
@@ -96,35 +96,35 @@ pair_parts made new acts is = (sym (ap (λ (m : Client × ClientActs). m.0) is),
 
 module _ (old : Client) (now : ℕ) where
   -- what the function makes is a step
-  makes : (event : ClientEvent) (new : Client) (acts : ClientActs) (m : Option (Client × ClientActs)) → made_at old.invite old.state event old now ≡ m →
-      Makes m old new acts → ClientStep old event now new acts
+  makes : (event : ClientEvent) (new : Client) (acts : ClientActs) (m : Option (Client × ClientActs)) → client_made_at old.invite old.state event old now ≡ m →
+      MakesClient m old new acts → ClientStep old event now new acts
   makes event new acts None e is =
-      inr ((λ new acts row. let made : made_at old.invite old.state event old now ≡ Some (new, acts) = row_made old now event new acts row in cc), is.0, is.1)
+      inr ((λ new acts row. let made : client_made_at old.invite old.state event old now ≡ Some (new, acts) = row_made old now event new acts row in cc), is.0, is.1)
   makes event new acts (Some made) e is =
       inl (by_equation old now event made (new, acts) (pair_is made new acts is) (made_row old now old.invite old.state event made refl refl e))
 
   pub makes_step : (event : ClientEvent) (new : Client) (acts : ClientActs) →
-      Makes (made_at old.invite old.state event old now) old new acts → ClientStep old event now new acts
+      MakesClient (client_made_at old.invite old.state event old now) old new acts → ClientStep old event now new acts
   makes_step event new acts is = makes event new acts _ refl is
 
   pub makes_at : (event event' : ClientEvent) (new : Client) (acts : ClientActs) → event ≡ event' →
-      Makes (made_at old.invite old.state event' old now) old new acts → ClientStep old event now new acts
+      MakesClient (client_made_at old.invite old.state event' old now) old new acts → ClientStep old event now new acts
   makes_at event event' new acts e is = subst (λ x. ClientStep old x now new acts) (sym e) (makes_step event' new acts is)
 
   -- a step is what the function makes
   after_of : (event : ClientEvent) (new : Client) (acts : ClientActs) (m : Option (Client × ClientActs)) →
-      made_at old.invite old.state event old now ≡ m → ClientStep old event now new acts → unwrap_or m (old, silent) ≡ (new, acts)
+      client_made_at old.invite old.state event old now ≡ m → ClientStep old event now new acts → unwrap_or m (old, client_silent) ≡ (new, acts)
   after_of event new acts m e (inl row) =
-      let made : made_at old.invite old.state event old now ≡ Some (new, acts) = row_made old now event new acts row in
-      let same : m ≡ Some (new, acts) = cc in ap (λ x. unwrap_or x (old, silent)) same
+      let made : client_made_at old.invite old.state event old now ≡ Some (new, acts) = row_made old now event new acts row in
+      let same : m ≡ Some (new, acts) = cc in ap (λ x. unwrap_or x (old, client_silent)) same
   after_of event new acts None e (inr (none, n, a)) = cc
   after_of event new acts (Some made) e (inr (none, n, a)) = absurd (none made.0 made.1 (made_row old now old.invite old.state event made refl refl e))
 
   pub step_after : (event : ClientEvent) (new : Client) (acts : ClientActs) → ClientStep old event now new acts → client_after old event now ≡ (new, acts)
   step_after event new acts step = after_of event new acts _ refl step
 
-  of_after : (new : Client) (acts : ClientActs) (m : Option (Client × ClientActs)) → unwrap_or m (old, silent) ≡ (new, acts) → Makes m old new acts
-  of_after new acts None is = pair_parts (old, silent) new acts is
+  of_after : (new : Client) (acts : ClientActs) (m : Option (Client × ClientActs)) → unwrap_or m (old, client_silent) ≡ (new, acts) → MakesClient m old new acts
+  of_after new acts None is = pair_parts (old, client_silent) new acts is
   of_after new acts (Some made) is = pair_parts made new acts is
 
   pub after_step : (event : ClientEvent) (new : Client) (acts : ClientActs) → client_after old event now ≡ (new, acts) → ClientStep old event now new acts

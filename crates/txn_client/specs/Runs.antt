@@ -9,7 +9,7 @@ use Rattle.txn_client.specs.declared.machine.ClientState.TheVariants.{Calling, T
 use Rattle.txn_client.specs.Rows.{ClientStep, new_client}
 
 -- a step that was made: the client before it, the event and its moment, and what came of it
-pub record Made : Type 0 where
+pub record MadeClientStep : Type 0 where
   pub old : Client
   pub event : ClientEvent
   pub now : ℕ
@@ -17,20 +17,20 @@ pub record Made : Type 0 where
   pub acts : ClientActs
 
 -- the steps of a client from its beginning, the latest first, and the client after them
-pub data ClientRun (invite : Bool) : List Made → Client → Type 0 where
+pub data ClientRun (invite : Bool) : List MadeClientStep → Client → Type 0 where
   begins : ClientRun invite [] (new_client invite)
-  goes_on : (steps : List Made) (old : Client) (event : ClientEvent) (now : ℕ) (new : Client) (acts : ClientActs) →
+  goes_on : (steps : List MadeClientStep) (old : Client) (event : ClientEvent) (now : ℕ) (new : Client) (acts : ClientActs) →
       ClientRun invite steps old → ClientStep old event now new acts →
       ClientRun invite (record { old = old; event = event; now = now; new = new; acts = acts } ∷ steps) new
 
--- What settles the request: a timeout, or a final answer that is passed up. After a 2xx to an INVITE, further ones
+-- What settles the request: a timeout, or a final response that is passed up. After a 2xx to an INVITE, further ones
 -- settle nothing.
-abbrev pub is_final : ClientEvent → Bool
-is_final Success = true
-is_final Failure = true
-is_final Start = false
-is_final Provisional = false
-is_final (Timer timer) = false
+abbrev pub is_final_event : ClientEvent → Bool
+is_final_event Success = true
+is_final_event Failure = true
+is_final_event Start = false
+is_final_event Provisional = false
+is_final_event (Timer timer) = false
 
 abbrev pub is_accepted : ClientState → Bool
 is_accepted Accepted = true
@@ -40,24 +40,24 @@ is_accepted Proceeding = false
 is_accepted Completed = false
 is_accepted Terminated = false
 
-abbrev pub Settles : Made → Type 0
-Settles s = (s.acts.timeout ≡ true) ⊎ ((s.acts.up ≡ true) × (is_final s.event ≡ true) × (is_accepted s.old.state ≡ false))
+abbrev pub Settles : MadeClientStep → Type 0
+Settles s = (s.acts.timeout ≡ true) ⊎ ((s.acts.up ≡ true) × (is_final_event s.event ≡ true) × (is_accepted s.old.state ≡ false))
 
 -- the timers that a state has
-abbrev pub HasTimersOf : Bool → ClientState → Client → Type 0
-HasTimersOf invite Calling c = c.linger ≡ None
-HasTimersOf invite Trying c = c.linger ≡ None
-HasTimersOf true Proceeding c = (c.retry ≡ None) × (c.limit ≡ None) × (c.linger ≡ None)
-HasTimersOf false Proceeding c = c.linger ≡ None
-HasTimersOf invite Accepted c = (c.retry ≡ None) × (c.limit ≡ None)
-HasTimersOf invite Completed c = (c.retry ≡ None) × (c.limit ≡ None)
-HasTimersOf invite Terminated c = (c.retry ≡ None) × (c.limit ≡ None) × (c.linger ≡ None)
+abbrev pub HasClientTimers : Bool → ClientState → Client → Type 0
+HasClientTimers invite Calling c = c.linger ≡ None
+HasClientTimers invite Trying c = c.linger ≡ None
+HasClientTimers true Proceeding c = (c.retry ≡ None) × (c.limit ≡ None) × (c.linger ≡ None)
+HasClientTimers false Proceeding c = c.linger ≡ None
+HasClientTimers invite Accepted c = (c.retry ≡ None) × (c.limit ≡ None)
+HasClientTimers invite Completed c = (c.retry ≡ None) × (c.limit ≡ None)
+HasClientTimers invite Terminated c = (c.retry ≡ None) × (c.limit ≡ None) × (c.linger ≡ None)
 
--- a state in which a final answer was got has the timer armed that ends the transaction: D or K in Completed, M in Accepted
-abbrev pub WaitsToEnd : ClientState → Client → Type 0
-WaitsToEnd Accepted c = IsSome c.linger
-WaitsToEnd Completed c = IsSome c.linger
-WaitsToEnd Calling c = Unit {0}
-WaitsToEnd Trying c = Unit {0}
-WaitsToEnd Proceeding c = Unit {0}
-WaitsToEnd Terminated c = Unit {0}
+-- a state in which a final response was got has the timer armed that ends the transaction: D or K in Completed, M in Accepted
+abbrev pub ClientWaitsToEnd : ClientState → Client → Type 0
+ClientWaitsToEnd Accepted c = IsSome c.linger
+ClientWaitsToEnd Completed c = IsSome c.linger
+ClientWaitsToEnd Calling c = Unit {0}
+ClientWaitsToEnd Trying c = Unit {0}
+ClientWaitsToEnd Proceeding c = Unit {0}
+ClientWaitsToEnd Terminated c = Unit {0}

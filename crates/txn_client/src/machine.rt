@@ -5,15 +5,15 @@ ghost use Rattle.std.specs.Prelude.{◌≡◌};
 /// The states of a client transaction (RFC 3261, section 17.1, figures 5 and 6; RFC 6026, section 7.2).
 #[derive(Clone, Copy, Debug, PartialEq, Eq)]
 pub enum ClientState {
-    /// An INVITE was sent, or is about to be, and no answer came.
+    /// An INVITE was sent, or is about to be, and no response came.
     Calling,
-    /// Another request was sent, or is about to be, and no answer came.
+    /// Another request was sent, or is about to be, and no response came.
     Trying,
-    /// A provisional answer came.
+    /// A provisional response came.
     Proceeding,
     /// A 2xx to the INVITE came; others may follow.
     Accepted,
-    /// A final answer came, for an INVITE one of 300 to 699; it may come again.
+    /// A final response came, for an INVITE one of 300 to 699; it may come again.
     Completed,
     /// The transaction is over.
     Terminated,
@@ -30,7 +30,7 @@ pub struct Client {
     pub retry: Option<u64>,
     /// The interval, in milliseconds, with which `retry` was armed last; 0 where it never was.
     pub interval: u64,
-    /// Timer B of an INVITE, F of another request: no answer came in time.
+    /// Timer B of an INVITE, F of another request: no response came in time.
     pub limit: Option<u64>,
     /// Timer D or M of an INVITE, K of another request: the transaction is over.
     pub linger: Option<u64>,
@@ -52,11 +52,11 @@ pub enum ClientTimer {
 pub enum ClientEvent {
     /// The request is handed to the transaction.
     Start,
-    /// An answer of 100 to 199 came.
+    /// A response of 100 to 199 came.
     Provisional,
-    /// An answer of 200 to 299 came.
+    /// A response of 200 to 299 came.
     Success,
-    /// An answer of 300 to 699 came.
+    /// A response of 300 to 699 came.
     Failure,
     /// A timer is due. Where it is not armed, nothing happens.
     Timer(ClientTimer),
@@ -67,11 +67,11 @@ pub enum ClientEvent {
 pub struct ClientActs {
     /// Send the request, for the first time or again.
     pub send: bool,
-    /// Send an ACK for the answer that came.
+    /// Send an ACK for the response that came.
     pub ack: bool,
-    /// Pass up the answer that came.
+    /// Pass up the response that came.
     pub up: bool,
-    /// Report that no answer came in time.
+    /// Report that no response came in time.
     pub timeout: bool,
 }
 

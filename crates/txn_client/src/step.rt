@@ -1,8 +1,8 @@
 //! One step of a client transaction.
 
 ghost use Rattle.std.specs.Prelude.{◌≡◌, ℕ};
-ghost use Rattle.txn_client.specs.Rows.{ClientStep, retrying, answered, over, sends, passes_up};
-ghost use Rattle.txn_client.specs.After.{Makes, lingering, made_at};
+ghost use Rattle.txn_client.specs.Rows.{ClientStep, client_retrying, responded, client_over, client_sends, passes_up};
+ghost use Rattle.txn_client.specs.After.{MakesClient, lingering, client_made_at};
 
 use crate::machine::ClientState::{Accepted, Calling, Completed, Proceeding, Terminated, Trying};
 use crate::machine::{Client, ClientActs, ClientEvent, ClientState, ClientTimer};
@@ -52,7 +52,7 @@ impl ClientActs {
         ..ClientActs::SILENT
     };
 
-    /// The answer is to be passed up.
+    /// The response is to be passed up.
     const PASSED_UP: ClientActs = ClientActs {
         up: true,
         ..ClientActs::SILENT
@@ -62,7 +62,7 @@ impl ClientActs {
 impl Client {
     /// The request is handed in.
     fn started(&mut self, now: u64) -> ClientActs
-        ensures { Makes (made_at self.old.invite self.old.state ClientEvent.Start self.old now) self.old self.new result }
+        ensures { MakesClient (client_made_at self.old.invite self.old.state ClientEvent.Start self.old now) self.old self.new result }
     {
         match (self.invite, self.state) {
             (true, Calling) | (false, Trying) => {
@@ -76,7 +76,7 @@ impl Client {
     /// A 1xx came.
     fn got_provisional(&mut self) -> ClientActs
         ensures { (now : ℕ) →
-            Makes (made_at self.old.invite self.old.state ClientEvent.Provisional self.old now) self.old self.new result }
+            MakesClient (client_made_at self.old.invite self.old.state ClientEvent.Provisional self.old now) self.old self.new result }
     {
         match (self.invite, self.state) {
             (true, Calling | Proceeding) => {
@@ -94,7 +94,7 @@ impl Client {
 
     /// A 2xx came.
     fn got_success(&mut self, now: u64) -> ClientActs
-        ensures { Makes (made_at self.old.invite self.old.state ClientEvent.Success self.old now) self.old self.new result }
+        ensures { MakesClient (client_made_at self.old.invite self.old.state ClientEvent.Success self.old now) self.old self.new result }
     {
         match (self.invite, self.state) {
             (true, Calling | Proceeding) => self.take_final(Accepted, after(now, 64 * T1)),
@@ -106,7 +106,7 @@ impl Client {
 
     /// A 300 to 699 came.
     fn got_failure(&mut self, now: u64) -> ClientActs
-        ensures { Makes (made_at self.old.invite self.old.state ClientEvent.Failure self.old now) self.old self.new result }
+        ensures { MakesClient (client_made_at self.old.invite self.old.state ClientEvent.Failure self.old now) self.old self.new result }
     {
         match (self.invite, self.state) {
             (true, Calling | Proceeding) => {
@@ -121,7 +121,7 @@ impl Client {
 
     /// A timer is due, if it is armed.
     fn fired(&mut self, timer: ClientTimer, now: u64) -> ClientActs
-        ensures { Makes (made_at self.old.invite self.old.state (ClientEvent.Timer timer) self.old now) self.old self.new result }
+        ensures { MakesClient (client_made_at self.old.invite self.old.state (ClientEvent.Timer timer) self.old now) self.old self.new result }
     {
         match timer {
             ClientTimer::Retry => self.retry_fired(now),
@@ -132,7 +132,7 @@ impl Client {
 
     /// Timer A or E is due, if it is armed.
     fn retry_fired(&mut self, now: u64) -> ClientActs
-        ensures { Makes (made_at self.old.invite self.old.state (ClientEvent.Timer ClientTimer.Retry) self.old now)
+        ensures { MakesClient (client_made_at self.old.invite self.old.state (ClientEvent.Timer ClientTimer.Retry) self.old now)
             self.old self.new result }
     {
         if self.retry.is_none() {
@@ -146,10 +146,10 @@ impl Client {
         }
     }
 
-    /// Timer B or F is due, if it is armed: no answer came in time.
+    /// Timer B or F is due, if it is armed: no response came in time.
     fn limit_fired(&mut self) -> ClientActs
         ensures { (now : ℕ) →
-            Makes (made_at self.old.invite self.old.state (ClientEvent.Timer ClientTimer.Limit) self.old now)
+            MakesClient (client_made_at self.old.invite self.old.state (ClientEvent.Timer ClientTimer.Limit) self.old now)
             self.old self.new result }
     {
         if self.limit.is_none() {
@@ -167,7 +167,7 @@ impl Client {
     /// Timer D, K or M is due, if it is armed: the transaction is over.
     fn linger_fired(&mut self) -> ClientActs
         ensures { (now : ℕ) →
-            Makes (made_at self.old.invite self.old.state (ClientEvent.Timer ClientTimer.Linger) self.old now)
+            MakesClient (client_made_at self.old.invite self.old.state (ClientEvent.Timer ClientTimer.Linger) self.old now)
             self.old self.new result }
     {
         if self.linger.is_none() {
@@ -182,23 +182,23 @@ impl Client {
 
     /// The request is sent, and again after `interval` milliseconds.
     fn send_again(&mut self, now: u64, interval: u64) -> ClientActs
-        ensures client { self.new ≡ retrying self.old now interval }
-        ensures acts { result ≡ sends }
+        ensures client { self.new ≡ client_retrying self.old now interval }
+        ensures acts { result ≡ client_sends }
     {
         self.retry = Some(after(now, interval));
         self.interval = interval;
         ClientActs::SENT
     }
 
-    /// An answer came: the request isn't sent again, and no other limit holds.
+    /// A response came: the request isn't sent again, and no other limit holds.
     fn stop_waiting(&mut self)
-        ensures { self.new ≡ answered self.old }
+        ensures { self.new ≡ responded self.old }
     {
         self.retry = None;
         self.limit = None;
     }
 
-    /// A final answer came: it is passed up, and `state` absorbs its repeats until `due`.
+    /// A final response came: it is passed up, and `state` absorbs its repeats until `due`.
     fn take_final(&mut self, state: ClientState, due: u64) -> ClientActs
         ensures client { self.new ≡ lingering self.old state due }
         ensures acts { result ≡ passes_up }
@@ -211,7 +211,7 @@ impl Client {
 
     /// The transaction is over.
     fn end(&mut self)
-        ensures { self.new ≡ over self.old }
+        ensures { self.new ≡ client_over self.old }
     {
         self.stop_waiting();
         self.linger = None;

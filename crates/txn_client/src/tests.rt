@@ -1,3 +1,5 @@
+//! Each row of the tables on a client of its own, and runs of a few steps.
+
 use super::*;
 use std::process::Abort;
 
@@ -63,7 +65,7 @@ fn walk(rt: &impl Abort, invite: bool, lines: &[Line]) {
 }
 
 #[test]
-fn an_invite_without_an_answer(rt: HostRuntime) {
+fn an_invite_without_a_response(rt: HostRuntime) {
     use ClientState::{Calling, Terminated};
     walk(
         &rt,
@@ -230,7 +232,7 @@ fn an_invite_that_is_accepted(rt: HostRuntime) {
 }
 
 #[test]
-fn another_request_without_an_answer(rt: HostRuntime) {
+fn another_request_without_a_response(rt: HostRuntime) {
     use ClientState::{Terminated, Trying};
     walk(
         &rt,

@@ -1,3 +1,5 @@
+//! Moments and intervals, also at the greatest moment.
+
 use super::*;
 
 #[test]

@@ -7,27 +7,27 @@ use Rattle.txn_server.specs.declared.machine.ServerEvent.{ServerEvent}
 use Rattle.txn_server.specs.declared.machine.ServerState.{ServerState}
 use Rattle.txn_server.specs.declared.machine.ServerState.TheVariants.{Trying, Proceeding, Accepted, Completed, Confirmed, Terminated}
 use Rattle.txn_server.specs.Rows
-use Rattle.txn_server.specs.Rows.{ServerRow, ServerStep, silent, sends, new_server, IsProvisional, IsSuccess, IsFailure, IsFinal}
+use Rattle.txn_server.specs.Rows.{ServerRow, ServerStep, server_silent, server_sends, new_server, IsProvisional, IsSuccess, IsFailure, IsFinal}
 use Rattle.txn_server.specs.Runs
-use Rattle.txn_server.specs.Runs.{Made, ServerRun, code_sent, codes_sent, IsAnswered, HasSent, IsLast, HasTimersOf, WaitsToEnd}
-use Rattle.txn_server.specs.After.{made_at}
+use Rattle.txn_server.specs.Runs.{MadeServerStep, ServerRun, code_sent, codes_sent, IsAnswered, HasSent, IsLast, HasServerTimers, ServerWaitsToEnd}
+use Rattle.txn_server.specs.After.{server_made_at}
 use Rattle.txn_server.proofs.Table.{row_made, either}
 
 pub one_row : (old : Server) (now : ℕ) (event : ServerEvent) (new new' : Server) (acts acts' : ServerActs) →
     ServerRow old now event new acts → ServerRow old now event new' acts' → (new ≡ new') × (acts ≡ acts')
 one_row old now event new new' acts acts' r r' =
-    let a : made_at old.invite old.state event old now ≡ Some (new, acts) = row_made old now event new acts r in
-    let b : made_at old.invite old.state event old now ≡ Some (new', acts') = row_made old now event new' acts' r' in
+    let a : server_made_at old.invite old.state event old now ≡ Some (new, acts) = row_made old now event new acts r in
+    let b : server_made_at old.invite old.state event old now ≡ Some (new', acts') = row_made old now event new' acts' r' in
     let made : Server × ServerActs = (new, acts) in let made' : Server × ServerActs = (new', acts') in
     let p : made ≡ made' = cc in (ap (λ z. z.0) p, ap (λ z. z.1) p)
 
 -- the last step of a run
-record LastStep (invite : Bool) (t : Made) (steps : List Made) (s : Server) : Type 0 where
+record LastStep (invite : Bool) (t : MadeServerStep) (steps : List MadeServerStep) (s : Server) : Type 0 where
   run : ServerRun invite steps t.old
   step : ServerStep t.old t.event t.now t.new t.acts
   new : s ≡ t.new
 
-last_step : (invite : Bool) (t : Made) (steps : List Made) (s : Server) → ServerRun invite (t ∷ steps) s → LastStep invite t steps s
+last_step : (invite : Bool) (t : MadeServerStep) (steps : List MadeServerStep) (s : Server) → ServerRun invite (t ∷ steps) s → LastStep invite t steps s
 last_step invite _ _ _ (Runs.goes_on steps old event now new acts run step) = record { run = run; step = step; new = refl }
 
 -- the kind of request stays
@@ -39,59 +39,59 @@ step_invite : (old : Server) (now : ℕ) (event : ServerEvent) (new : Server) (a
 step_invite old now event new acts (inl row) = row_invite old now event new acts row
 step_invite old now event new acts (inr none) = ap (λ (x : Server). x.invite) none.1
 
-run_invite : (invite : Bool) (steps : List Made) (s : Server) → ServerRun invite steps s → s.invite ≡ invite
+run_invite : (invite : Bool) (steps : List MadeServerStep) (s : Server) → ServerRun invite steps s → s.invite ≡ invite
 run_invite true _ _ Runs.begins = refl
 run_invite false _ _ Runs.begins = refl
 run_invite invite _ _ (Runs.goes_on steps old event now new acts run step) = step_invite old now event new acts step ∙ run_invite invite steps old run
 
 -- Terminated
 Late : Bool → Server → Server → ServerActs → Type 0
-Late invite old new acts = (new ≡ old) × ((acts ≡ silent) ⊎ ((invite ≡ true) × (acts ≡ sends)))
+Late invite old new acts = (new ≡ old) × ((acts ≡ server_silent) ⊎ ((invite ≡ true) × (acts ≡ server_sends)))
 
 row_terminated : (old : Server) (now : ℕ) (event : ServerEvent) (new : Server) (acts : ServerActs) → ServerRow old now event new acts →
     old.state ≡ Terminated → Late old.invite old new acts
 unfolding Late
-row_terminated old now _ _ _ (Rows.late_2xx code is (inl here)) over = absurd (cc)
-row_terminated old now _ _ _ (Rows.late_2xx code is (inr (inl here))) over = absurd (cc)
-row_terminated old now _ _ _ (Rows.late_2xx code is (inr (inr here))) over = (refl, inr (here.0, refl))
-row_terminated old now _ _ _ (Rows.open_1xx code is (inl here)) over = absurd (cc)
-row_terminated old now _ _ _ (Rows.open_1xx code is (inr here)) over = absurd (cc)
-row_terminated old now _ _ _ (Rows.open_final code is (inl here)) over = absurd (cc)
-row_terminated old now _ _ _ (Rows.open_final code is (inr here)) over = absurd (cc)
-row_terminated old now _ _ _ (Rows.answered_copy (inl here)) over = absurd (cc)
-row_terminated old now _ _ _ (Rows.answered_copy (inr here)) over = absurd (cc)
-row_terminated old now _ _ _ (Rows.proceeding_copy here said) over = absurd (cc)
-row_terminated old now _ _ _ (Rows.proceeding_1xx code is here) over = absurd (cc)
-row_terminated old now _ _ _ (Rows.proceeding_2xx code is here) over = absurd (cc)
-row_terminated old now _ _ _ (Rows.proceeding_failure code is here) over = absurd (cc)
-row_terminated old now _ _ _ (Rows.completed_copy here) over = absurd (cc)
-row_terminated old now _ _ _ (Rows.completed_g here due) over = absurd (cc)
-row_terminated old now _ _ _ (Rows.completed_ack here) over = absurd (cc)
-row_terminated old now _ _ _ (Rows.completed_h here due) over = absurd (cc)
-row_terminated old now _ _ _ (Rows.confirmed_i here due) over = absurd (cc)
-row_terminated old now _ _ _ (Rows.accepted_2xx code is here) over = absurd (cc)
-row_terminated old now _ _ _ (Rows.accepted_ack here) over = absurd (cc)
-row_terminated old now _ _ _ (Rows.accepted_l here due) over = absurd (cc)
-row_terminated old now _ _ _ (Rows.completed_j here due) over = absurd (cc)
+row_terminated old now _ _ _ (Rows.late_2xx code is (inl here)) server_over = absurd (cc)
+row_terminated old now _ _ _ (Rows.late_2xx code is (inr (inl here))) server_over = absurd (cc)
+row_terminated old now _ _ _ (Rows.late_2xx code is (inr (inr here))) server_over = (refl, inr (here.0, refl))
+row_terminated old now _ _ _ (Rows.open_1xx code is (inl here)) server_over = absurd (cc)
+row_terminated old now _ _ _ (Rows.open_1xx code is (inr here)) server_over = absurd (cc)
+row_terminated old now _ _ _ (Rows.open_final code is (inl here)) server_over = absurd (cc)
+row_terminated old now _ _ _ (Rows.open_final code is (inr here)) server_over = absurd (cc)
+row_terminated old now _ _ _ (Rows.answered_copy (inl here)) server_over = absurd (cc)
+row_terminated old now _ _ _ (Rows.answered_copy (inr here)) server_over = absurd (cc)
+row_terminated old now _ _ _ (Rows.proceeding_copy here said) server_over = absurd (cc)
+row_terminated old now _ _ _ (Rows.proceeding_1xx code is here) server_over = absurd (cc)
+row_terminated old now _ _ _ (Rows.proceeding_2xx code is here) server_over = absurd (cc)
+row_terminated old now _ _ _ (Rows.proceeding_failure code is here) server_over = absurd (cc)
+row_terminated old now _ _ _ (Rows.completed_copy here) server_over = absurd (cc)
+row_terminated old now _ _ _ (Rows.completed_g here due) server_over = absurd (cc)
+row_terminated old now _ _ _ (Rows.completed_ack here) server_over = absurd (cc)
+row_terminated old now _ _ _ (Rows.completed_h here due) server_over = absurd (cc)
+row_terminated old now _ _ _ (Rows.confirmed_i here due) server_over = absurd (cc)
+row_terminated old now _ _ _ (Rows.accepted_2xx code is here) server_over = absurd (cc)
+row_terminated old now _ _ _ (Rows.accepted_ack here) server_over = absurd (cc)
+row_terminated old now _ _ _ (Rows.accepted_l here due) server_over = absurd (cc)
+row_terminated old now _ _ _ (Rows.completed_j here due) server_over = absurd (cc)
 
 step_terminated : (old : Server) (now : ℕ) (event : ServerEvent) (new : Server) (acts : ServerActs) → ServerStep old event now new acts →
     old.state ≡ Terminated → Late old.invite old new acts
 unfolding Late
-step_terminated old now event new acts (inl row) over = row_terminated old now event new acts row over
-step_terminated old now event new acts (inr none) over = (none.1, inl none.2)
+step_terminated old now event new acts (inl row) server_over = row_terminated old now event new acts row server_over
+step_terminated old now event new acts (inr none) server_over = (none.1, inl none.2)
 
-pub terminated : (invite : Bool) (later : List Made) (end : Made) (before : List Made) (s : Server) →
+pub terminated : (invite : Bool) (later : List MadeServerStep) (end : MadeServerStep) (before : List MadeServerStep) (s : Server) →
     ServerRun invite (later ++ end ∷ before) s → end.new.state ≡ Terminated →
-    AllByRecursion (λ t. (t.new ≡ t.old) × ((t.acts ≡ silent) ⊎ ((invite ≡ true) × (t.acts ≡ sends)))) later × (s.state ≡ Terminated)
+    AllByRecursion (λ t. (t.new ≡ t.old) × ((t.acts ≡ server_silent) ⊎ ((invite ≡ true) × (t.acts ≡ server_sends)))) later × (s.state ≡ Terminated)
 unfolding Late
-terminated invite [] end before s run over =
-    let l = last_step invite end before s run in (tt, ap (λ (x : Server). x.state) l.new ∙ over)
-terminated invite (t ∷ later) end before s run over =
+terminated invite [] end before s run server_over =
+    let l = last_step invite end before s run in (tt, ap (λ (x : Server). x.state) l.new ∙ server_over)
+terminated invite (t ∷ later) end before s run server_over =
     let l = last_step invite t (later ++ end ∷ before) s run in
-    let rest = terminated invite later end before t.old l.run over in
+    let rest = terminated invite later end before t.old l.run server_over in
     let late = step_terminated t.old t.now t.event t.new t.acts l.step rest.1 in
     let kind : t.old.invite ≡ invite = run_invite invite (later ++ end ∷ before) t.old l.run in (
-      ((late.0, subst (λ i. (t.acts ≡ silent) ⊎ ((i ≡ true) × (t.acts ≡ sends))) kind late.1), rest.0),
+      ((late.0, subst (λ i. (t.acts ≡ server_silent) ⊎ ((i ≡ true) × (t.acts ≡ server_sends))) kind late.1), rest.0),
       ap (λ (x : Server). x.state) l.new ∙ (ap (λ (x : Server). x.state) late.0 ∙ rest.1),
     )
 
@@ -158,7 +158,7 @@ row_sent old now _ _ _ codes (Rows.open_final code is (inr here)) h =
 row_sent old now _ _ _ codes (Rows.answered_copy here) h = h
 row_sent old now _ _ _ codes (Rows.completed_j here due) h = let w = on old codes false Completed here h in kind old codes false Terminated here.0 (w.0, w.1)
 
-silent_sends : (event : ServerEvent) (acts : ServerActs) → acts ≡ silent → code_sent acts.send event ≡ []
+silent_sends : (event : ServerEvent) (acts : ServerActs) → acts ≡ server_silent → code_sent acts.send event ≡ []
 silent_sends event acts e = ap (λ (a : ServerActs). code_sent a.send event) e
 
 step_sent : (old : Server) (now : ℕ) (event : ServerEvent) (new : Server) (acts : ServerActs) (codes : List ℕ) → ServerStep old event now new acts →
@@ -167,12 +167,12 @@ step_sent old now event new acts codes (inl row) h = row_sent old now event new 
 step_sent old now event new acts codes (inr none) h =
     subst (λ l. HasSent new.invite new.state (l ++ codes)) (sym (silent_sends event acts none.2)) (subst (λ (s : Server). HasSent s.invite s.state codes) (sym none.1) h)
 
-run_sent : (invite : Bool) (steps : List Made) (s : Server) → ServerRun invite steps s → HasSent s.invite s.state (codes_sent steps)
+run_sent : (invite : Bool) (steps : List MadeServerStep) (s : Server) → ServerRun invite steps s → HasSent s.invite s.state (codes_sent steps)
 run_sent true _ _ Runs.begins = tt
 run_sent false _ _ Runs.begins = refl
 run_sent invite _ _ (Runs.goes_on steps old event now new acts run step) = step_sent old now event new acts (codes_sent steps) step (run_sent invite steps old run)
 
-pub sent : (invite : Bool) (steps : List Made) (s : Server) → ServerRun invite steps s → HasSent invite s.state (codes_sent steps)
+pub sent : (invite : Bool) (steps : List MadeServerStep) (s : Server) → ServerRun invite steps s → HasSent invite s.state (codes_sent steps)
 sent invite steps s run = subst (λ i. HasSent i s.state (codes_sent steps)) (run_invite invite steps s run) (run_sent invite steps s run)
 
 -- whether anything was sent
@@ -221,13 +221,13 @@ nothing_said : Says false []
 unfolding Says
 nothing_said = ((λ e. cc), λ full. absurd (full refl))
 
-run_says : (invite : Bool) (steps : List Made) (s : Server) → ServerRun invite steps s → Says s.answered (codes_sent steps)
+run_says : (invite : Bool) (steps : List MadeServerStep) (s : Server) → ServerRun invite steps s → Says s.answered (codes_sent steps)
 run_says true _ _ Runs.begins = nothing_said
 run_says false _ _ Runs.begins = nothing_said
 run_says invite _ _ (Runs.goes_on steps old event now new acts run step) =
     step_says old now event new acts (codes_sent steps) step (run_sent invite steps old run) (run_says invite steps old run)
 
-pub says_answered : (invite : Bool) (steps : List Made) (s : Server) → ServerRun invite steps s →
+pub says_answered : (invite : Bool) (steps : List MadeServerStep) (s : Server) → ServerRun invite steps s →
     (s.answered ≡ true → codes_sent steps ≢ []) × (codes_sent steps ≢ [] → s.answered ≡ true)
 unfolding Says
 says_answered invite steps s run = run_says invite steps s run
@@ -245,7 +245,7 @@ row_repeats old now event new acts row e = absurd (cc)
 step_repeats : (old : Server) (now : ℕ) (event : ServerEvent) (new : Server) (acts : ServerActs) → ServerStep old event now new acts → acts.repeat ≡ true →
     ((old.state ≡ Proceeding) × ((old.answered ≡ true) ⊎ (old.invite ≡ false))) ⊎ (old.state ≡ Completed)
 step_repeats old now event new acts (inl row) e = row_repeats old now event new acts row e
-step_repeats old now event new acts (inr none) e = let f : acts ≡ silent = none.2 in absurd (cc)
+step_repeats old now event new acts (inr none) e = let f : acts ≡ server_silent = none.2 in absurd (cc)
 
 split : (codes : List ℕ) → codes ≢ [] → AllByRecursion IsProvisional codes →
     (code : ℕ) × (early : List ℕ) × (codes ≡ code ∷ early) × AllByRecursion IsProvisional (code ∷ early)
@@ -256,7 +256,7 @@ in_proceeding : (i : Bool) (codes : List ℕ) → HasSent i Proceeding codes →
 in_proceeding true codes h = h
 in_proceeding false codes h = h.0
 
-pub repeats_in_proceeding : (invite : Bool) (before : List Made) (t : Made) (s : Server) → ServerRun invite (t ∷ before) s →
+pub repeats_in_proceeding : (invite : Bool) (before : List MadeServerStep) (t : MadeServerStep) (s : Server) → ServerRun invite (t ∷ before) s →
     t.acts.repeat ≡ true → t.old.state ≡ Proceeding →
     (code : ℕ) × (early : List ℕ) × (codes_sent before ≡ code ∷ early) × AllByRecursion IsProvisional (code ∷ early)
 repeats_in_proceeding invite before t s run e at =
@@ -276,7 +276,7 @@ at_completed : (i : Bool) (codes : List ℕ) → HasSent i Completed codes → (
 at_completed true codes h = (h.0, (λ e. h.1), is_last true codes h.0 h.2)
 at_completed false codes h = (h.0, (λ e. absurd (cc)), is_last false codes h.0 h.1)
 
-pub repeats_in_completed : (invite : Bool) (before : List Made) (t : Made) (s : Server) → ServerRun invite (t ∷ before) s →
+pub repeats_in_completed : (invite : Bool) (before : List MadeServerStep) (t : MadeServerStep) (s : Server) → ServerRun invite (t ∷ before) s →
     t.acts.repeat ≡ true → t.old.state ≢ Proceeding →
     (t.old.state ≡ Completed) × ((code : ℕ) × (invite ≡ true → IsFailure code) × IsLast (codes_sent before) code)
 repeats_in_completed invite before t s run e not =
@@ -285,14 +285,14 @@ repeats_in_completed invite before t s run e not =
     (done, at_completed invite (codes_sent before) (subst (λ state. HasSent invite state (codes_sent before)) done (sent invite before t.old l.run)))
 
 -- the timers of each state
-on_timers : (s x : Server) (state : ServerState) → s.state ≡ state → HasTimersOf s.state x → HasTimersOf state x
-on_timers s x state here h = subst (λ t. HasTimersOf t x) here h
+on_timers : (s x : Server) (state : ServerState) → s.state ≡ state → HasServerTimers s.state x → HasServerTimers state x
+on_timers s x state here h = subst (λ t. HasServerTimers t x) here h
 
-back_timers : (s x : Server) (state : ServerState) → s.state ≡ state → HasTimersOf state x → HasTimersOf s.state x
-back_timers s x state here h = subst (λ t. HasTimersOf t x) (sym here) h
+back_timers : (s x : Server) (state : ServerState) → s.state ≡ state → HasServerTimers state x → HasServerTimers s.state x
+back_timers s x state here h = subst (λ t. HasServerTimers t x) (sym here) h
 
 row_timers : (old : Server) (now : ℕ) (event : ServerEvent) (new : Server) (acts : ServerActs) → ServerRow old now event new acts →
-    HasTimersOf old.state old → HasTimersOf new.state new
+    HasServerTimers old.state old → HasServerTimers new.state new
 row_timers old now _ new _ (Rows.proceeding_copy here said) h = h
 row_timers old now _ new _ (Rows.proceeding_1xx code is here) h = on_timers old old Proceeding here.1 h
 row_timers old now _ new _ (Rows.proceeding_2xx code is here) h = (on_timers old old Proceeding here.1 h).0
@@ -314,25 +314,25 @@ row_timers old now _ new _ (Rows.answered_copy here) h = h
 row_timers old now _ new _ (Rows.completed_j here due) h = (refl, refl)
 
 step_timers : (old : Server) (now : ℕ) (event : ServerEvent) (new : Server) (acts : ServerActs) → ServerStep old event now new acts →
-    HasTimersOf old.state old → HasTimersOf new.state new
+    HasServerTimers old.state old → HasServerTimers new.state new
 step_timers old now event new acts (inl row) h = row_timers old now event new acts row h
-step_timers old now event new acts (inr none) h = subst (λ (s : Server). HasTimersOf s.state s) (sym none.1) h
+step_timers old now event new acts (inr none) h = subst (λ (s : Server). HasServerTimers s.state s) (sym none.1) h
 
-pub timers : (invite : Bool) (steps : List Made) (s : Server) → ServerRun invite steps s → HasTimersOf s.state s
+pub timers : (invite : Bool) (steps : List MadeServerStep) (s : Server) → ServerRun invite steps s → HasServerTimers s.state s
 timers true _ _ Runs.begins = (refl, refl)
 timers false _ _ Runs.begins = (refl, refl)
 timers invite _ _ (Runs.goes_on steps old event now new acts run step) = step_timers old now event new acts step (timers invite steps old run)
 
 -- the timer that ends the transaction
 row_ends : (old : Server) (now : ℕ) (event : ServerEvent) (new : Server) (acts : ServerActs) → ServerRow old now event new acts →
-    WaitsToEnd old.state old → WaitsToEnd new.state new
+    ServerWaitsToEnd old.state old → ServerWaitsToEnd new.state new
 row_ends old now _ new _ (Rows.proceeding_copy here said) h = h
 row_ends old now _ new _ (Rows.proceeding_1xx code is here) h = tt
 row_ends old now _ new _ (Rows.proceeding_2xx code is here) h = refl
 row_ends old now _ new _ (Rows.proceeding_failure code is here) h = refl
 row_ends old now _ new _ (Rows.completed_copy here) h = h
 row_ends old now _ new _ (Rows.completed_g here due) h =
-    let at : WaitsToEnd Completed old = subst (λ t. WaitsToEnd t old) here.1 h in subst (λ t. WaitsToEnd t new) (sym here.1) at
+    let at : ServerWaitsToEnd Completed old = subst (λ t. ServerWaitsToEnd t old) here.1 h in subst (λ t. ServerWaitsToEnd t new) (sym here.1) at
 row_ends old now _ new _ (Rows.completed_ack here) h = refl
 row_ends old now _ new _ (Rows.completed_h here due) h = tt
 row_ends old now _ new _ (Rows.confirmed_i here due) h = tt
@@ -346,11 +346,11 @@ row_ends old now _ new _ (Rows.answered_copy here) h = h
 row_ends old now _ new _ (Rows.completed_j here due) h = tt
 
 step_ends : (old : Server) (now : ℕ) (event : ServerEvent) (new : Server) (acts : ServerActs) → ServerStep old event now new acts →
-    WaitsToEnd old.state old → WaitsToEnd new.state new
+    ServerWaitsToEnd old.state old → ServerWaitsToEnd new.state new
 step_ends old now event new acts (inl row) h = row_ends old now event new acts row h
-step_ends old now event new acts (inr none) h = subst (λ (s : Server). WaitsToEnd s.state s) (sym none.1) h
+step_ends old now event new acts (inr none) h = subst (λ (s : Server). ServerWaitsToEnd s.state s) (sym none.1) h
 
-pub ends : (invite : Bool) (steps : List Made) (s : Server) → ServerRun invite steps s → WaitsToEnd s.state s
+pub ends : (invite : Bool) (steps : List MadeServerStep) (s : Server) → ServerRun invite steps s → ServerWaitsToEnd s.state s
 ends true _ _ Runs.begins = tt
 ends false _ _ Runs.begins = tt
 ends invite _ _ (Runs.goes_on steps old event now new acts run step) = step_ends old now event new acts step (ends invite steps old run)

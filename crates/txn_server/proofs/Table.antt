@@ -1,8 +1,8 @@
 -- The table as rows and the table as a function are one.
 use Rattle.std.proofs.Common.{◌≡◌, ℕ, ◌<◌, ◌≤◌, ◌⊎◌, inl, inr, Bool, true, false, Option, Some, None, IsSome, unwrap_or, refl, sym, ap, subst, arith}
 use Rattle.std.proofs.lemmas.Bool.Decides.{nat_tests}
-use Rattle.txn_server.specs.declared.machine.AnswerClass.{AnswerClass}
-use Rattle.txn_server.specs.declared.machine.AnswerClass.TheVariants.{Provisional, Success, Failure}
+use Rattle.txn_server.specs.declared.machine.ResponseClass.{ResponseClass}
+use Rattle.txn_server.specs.declared.machine.ResponseClass.TheVariants.{Provisional, Success, Failure}
 use Rattle.txn_server.specs.declared.machine.Server.{Server}
 use Rattle.txn_server.specs.declared.machine.ServerActs.{ServerActs}
 use Rattle.txn_server.specs.declared.machine.ServerEvent.{ServerEvent}
@@ -11,8 +11,8 @@ use Rattle.txn_server.specs.declared.machine.ServerState.{ServerState}
 use Rattle.txn_server.specs.declared.machine.ServerState.TheVariants.{Trying, Proceeding, Accepted, Completed, Confirmed, Terminated}
 use Rattle.txn_server.specs.declared.machine.ServerTimer.TheVariants.{Retry, End}
 use Rattle.txn_server.specs.Rows
-use Rattle.txn_server.specs.Rows.{ServerRow, NoServerRow, ServerStep, Invite, Other, silent, IsProvisional, IsSuccess, IsFailure, IsFinal}
-use Rattle.txn_server.specs.After.{class_of, if_armed, if_answered, sent_at, made_at, server_after, Makes}
+use Rattle.txn_server.specs.Rows.{ServerRow, NoServerRow, ServerStep, InviteServer, OtherServer, server_silent, IsProvisional, IsSuccess, IsFailure, IsFinal}
+use Rattle.txn_server.specs.After.{class_of, server_if_armed, if_answered, sent_at, server_made_at, server_after, MakesServer}
 
 -- the classes of codes
 pub class_provisional : (code : ℕ) → IsProvisional code → class_of code ≡ Provisional
@@ -44,27 +44,27 @@ final_class code h = elim (success_or code h) [ inl s ↦ inl (class_success cod
 
 -- what the row for the server's kind and state makes
 at : (i : Bool) (s : ServerState) (event : ServerEvent) (old : Server) (now : ℕ) (made : Option (Server × ServerActs)) →
-    (old.invite ≡ i) × (old.state ≡ s) → made_at i s event old now ≡ made →
-    made_at old.invite old.state event old now ≡ made
+    (old.invite ≡ i) × (old.state ≡ s) → server_made_at i s event old now ≡ made →
+    server_made_at old.invite old.state event old now ≡ made
 at i s event old now made here is = cc
 
 -- what the row for a code of this class makes
-of_class : (i : Bool) (s : ServerState) (code : ℕ) (class : AnswerClass) (old : Server) (now : ℕ) (made : Option (Server × ServerActs)) →
-    class_of code ≡ class → sent_at i s class old now ≡ made → made_at i s (Send code) old now ≡ made
+of_class : (i : Bool) (s : ServerState) (code : ℕ) (class : ResponseClass) (old : Server) (now : ℕ) (made : Option (Server × ServerActs)) →
+    class_of code ≡ class → sent_at i s class old now ≡ made → server_made_at i s (Send code) old now ≡ made
 of_class i s code class old now made h is = subst (λ k. sent_at i s k old now ≡ made) (sym h) is
 
 pub either : {A B : Type 0} (P : Type 0) → A ⊎ B → (A → P) → (B → P) → P
 either P (inl a) f g = f a
 either P (inr b) f g = g b
 
-armed : (timer : Option ℕ) (made : Server × ServerActs) → IsSome timer → if_armed timer made ≡ Some made
+armed : (timer : Option ℕ) (made : Server × ServerActs) → IsSome timer → server_if_armed timer made ≡ Some made
 armed None made h = cc
 armed (Some due) made h = refl
 
 some_is : (made made' : Server × ServerActs) → Some made ≡ Some made' → made ≡ made'
 some_is made made' e = cc
 
-when_armed : (timer : Option ℕ) (made made' : Server × ServerActs) → if_armed timer made ≡ Some made' → IsSome timer × (made ≡ made')
+when_armed : (timer : Option ℕ) (made made' : Server × ServerActs) → server_if_armed timer made ≡ Some made' → IsSome timer × (made ≡ made')
 when_armed None made made' e = cc
 when_armed (Some due) made made' e = (refl, cc)
 
@@ -74,7 +74,7 @@ when_answered true made made' e = (refl, cc)
 
 -- what a row makes is what the function gives
 pub row_made : (old : Server) (now : ℕ) (event : ServerEvent) (new : Server) (acts : ServerActs) → ServerRow old now event new acts →
-    made_at old.invite old.state event old now ≡ Some (new, acts)
+    server_made_at old.invite old.state event old now ≡ Some (new, acts)
 row_made old now _ _ _ (Rows.proceeding_copy here said) = at true Proceeding Copy old now _ here (ap (λ b. if_answered b (old, Rows.repeats)) said)
 row_made old now _ _ _ (Rows.proceeding_1xx code is here) = at true Proceeding (Send code) old now _ here (of_class true Proceeding code Provisional old now _ (class_provisional code is) refl)
 row_made old now _ _ _ (Rows.proceeding_2xx code is here) = at true Proceeding (Send code) old now _ here (of_class true Proceeding code Success old now _ (class_success code is) refl)
@@ -114,7 +114,7 @@ module _ (old : Server) (now : ℕ) where
   by_equation : (event : ServerEvent) (made made' : Server × ServerActs) → made ≡ made' → ServerRow old now event made.0 made.1 → ServerRow old now event made'.0 made'.1
   by_equation event made made' e row = let P : Server × ServerActs → Type 0 = λ m. ServerRow old now event m.0 m.1 in subst P e row
 
-  sent_row : (i : Bool) (s : ServerState) (code : ℕ) (class : AnswerClass) (made : Server × ServerActs) → old.invite ≡ i → old.state ≡ s → class_of code ≡ class →
+  sent_row : (i : Bool) (s : ServerState) (code : ℕ) (class : ResponseClass) (made : Server × ServerActs) → old.invite ≡ i → old.state ≡ s → class_of code ≡ class →
       sent_at i s class old now ≡ Some made → ServerRow old now (Send code) made.0 made.1
   sent_row true Proceeding code Provisional made hi hs hc e = by_equation _ _ _ (some_is _ _ e) (Rows.proceeding_1xx code (is_provisional code hc) (hi, hs))
   sent_row true Proceeding code Success made hi hs hc e = by_equation _ _ _ (some_is _ _ e) (Rows.proceeding_2xx code (is_success code hc) (hi, hs))
@@ -133,7 +133,7 @@ module _ (old : Server) (now : ℕ) where
 
   -- what the function gives is what a row makes
   pub made_row : (i : Bool) (s : ServerState) (event : ServerEvent) (made : Server × ServerActs) → old.invite ≡ i → old.state ≡ s →
-      made_at i s event old now ≡ Some made → ServerRow old now event made.0 made.1
+      server_made_at i s event old now ≡ Some made → ServerRow old now event made.0 made.1
   made_row true Proceeding Copy made hi hs e = let w = when_answered _ _ _ e in by_equation _ _ _ w.1 (Rows.proceeding_copy (hi, hs) w.0)
   made_row true Completed Copy made hi hs e = by_equation _ _ _ (some_is _ _ e) (Rows.completed_copy (hi, hs))
   made_row false Proceeding Copy made hi hs e = by_equation _ _ _ (some_is _ _ e) (Rows.answered_copy (inl (hi, hs)))
@@ -149,23 +149,23 @@ module _ (old : Server) (now : ℕ) where
   made_row i s event made hi hs e = cc
 
   -- what the function makes is a step
-  makes : (event : ServerEvent) (new : Server) (acts : ServerActs) (m : Option (Server × ServerActs)) → made_at old.invite old.state event old now ≡ m →
-      Makes m old new acts → ServerStep old event now new acts
+  makes : (event : ServerEvent) (new : Server) (acts : ServerActs) (m : Option (Server × ServerActs)) → server_made_at old.invite old.state event old now ≡ m →
+      MakesServer m old new acts → ServerStep old event now new acts
   makes event new acts None e is =
-      inr ((λ new acts row. let made : made_at old.invite old.state event old now ≡ Some (new, acts) = row_made old now event new acts row in cc), is.0, is.1)
+      inr ((λ new acts row. let made : server_made_at old.invite old.state event old now ≡ Some (new, acts) = row_made old now event new acts row in cc), is.0, is.1)
   makes event new acts (Some made) e is =
       inl (by_equation event made (new, acts) (pair_is made new acts is) (made_row old.invite old.state event made refl refl e))
 
   pub makes_step : (event : ServerEvent) (new : Server) (acts : ServerActs) →
-      Makes (made_at old.invite old.state event old now) old new acts → ServerStep old event now new acts
+      MakesServer (server_made_at old.invite old.state event old now) old new acts → ServerStep old event now new acts
   makes_step event new acts is = makes event new acts _ refl is
 
   -- a step is what the function makes
   after_of : (event : ServerEvent) (new : Server) (acts : ServerActs) (m : Option (Server × ServerActs)) →
-      made_at old.invite old.state event old now ≡ m → ServerStep old event now new acts → unwrap_or m (old, silent) ≡ (new, acts)
+      server_made_at old.invite old.state event old now ≡ m → ServerStep old event now new acts → unwrap_or m (old, server_silent) ≡ (new, acts)
   after_of event new acts m e (inl row) =
-      let made : made_at old.invite old.state event old now ≡ Some (new, acts) = row_made old now event new acts row in
-      let same : m ≡ Some (new, acts) = cc in ap (λ x. unwrap_or x (old, silent)) same
+      let made : server_made_at old.invite old.state event old now ≡ Some (new, acts) = row_made old now event new acts row in
+      let same : m ≡ Some (new, acts) = cc in ap (λ x. unwrap_or x (old, server_silent)) same
   after_of event new acts None e (inr (none, n, a)) = cc
   after_of event new acts (Some made) e (inr (none, n, a)) = absurd (none made.0 made.1 (made_row old.invite old.state event made refl refl e))
 
@@ -173,19 +173,19 @@ module _ (old : Server) (now : ℕ) where
   step_after event new acts step = after_of event new acts _ refl step
 
   of_after : (event : ServerEvent) (new : Server) (acts : ServerActs) (m : Option (Server × ServerActs)) →
-      unwrap_or m (old, silent) ≡ (new, acts) → Makes m old new acts
-  of_after event new acts None is = pair_parts (old, silent) new acts is
+      unwrap_or m (old, server_silent) ≡ (new, acts) → MakesServer m old new acts
+  of_after event new acts None is = pair_parts (old, server_silent) new acts is
   of_after event new acts (Some made) is = pair_parts made new acts is
 
   pub after_step : (event : ServerEvent) (new : Server) (acts : ServerActs) → server_after old event now ≡ (new, acts) → ServerStep old event now new acts
   after_step event new acts is = makes_step event new acts (of_after event new acts _ is)
 
   pub makes_at : (event event' : ServerEvent) (new : Server) (acts : ServerActs) → event ≡ event' →
-      Makes (made_at old.invite old.state event' old now) old new acts → ServerStep old event now new acts
+      MakesServer (server_made_at old.invite old.state event' old now) old new acts → ServerStep old event now new acts
   makes_at event event' new acts e is = subst (λ x. ServerStep old x now new acts) (sym e) (makes_step event' new acts is)
 
-  pub makes_sent : (event : ServerEvent) (code : ℕ) (class : AnswerClass) (new : Server) (acts : ServerActs) →
+  pub makes_sent : (event : ServerEvent) (code : ℕ) (class : ResponseClass) (new : Server) (acts : ServerActs) →
       event ≡ Send code → class ≡ class_of code →
-      Makes (sent_at old.invite old.state class old now) old new acts → ServerStep old event now new acts
+      MakesServer (sent_at old.invite old.state class old now) old new acts → ServerStep old event now new acts
   makes_sent event code class new acts e hc is =
-      makes_at event (Send code) new acts e (subst (λ k. Makes (sent_at old.invite old.state k old now) old new acts) hc is)
+      makes_at event (Send code) new acts e (subst (λ k. MakesServer (sent_at old.invite old.state k old now) old new acts) hc is)

@@ -5,15 +5,15 @@ ghost use Rattle.std.specs.Prelude.{◌≡◌};
 /// The states of a server transaction (RFC 3261, section 17.2, figures 7 and 8; RFC 6026, section 7.1).
 #[derive(Clone, Copy, Debug, PartialEq, Eq)]
 pub enum ServerState {
-    /// A request other than an INVITE came, and no answer was sent.
+    /// A request other than an INVITE came, and no response was sent.
     Trying,
-    /// No final answer was sent; for a request other than an INVITE a provisional one was.
+    /// No final response was sent; for a request other than an INVITE a provisional one was.
     Proceeding,
     /// A 2xx to the INVITE was sent; others may follow.
     Accepted,
-    /// A final answer was sent, for an INVITE one of 300 to 699.
+    /// A final response was sent, for an INVITE one of 300 to 699.
     Completed,
-    /// The ACK for the final answer came.
+    /// The ACK for the final response came.
     Confirmed,
     /// The transaction is over.
     Terminated,
@@ -26,9 +26,9 @@ pub struct Server {
     pub invite: bool,
     /// Where the transaction stands.
     pub state: ServerState,
-    /// Whether any answer was sent, be it a provisional one.
+    /// Whether any response was sent, be it a provisional one.
     pub answered: bool,
-    /// Timer G of an INVITE: the answer is sent again.
+    /// Timer G of an INVITE: the response is sent again.
     pub retry: Option<u64>,
     /// The interval, in milliseconds, with which `retry` was armed last; 0 where it never was.
     pub interval: u64,
@@ -52,7 +52,7 @@ pub enum ServerEvent {
     Copy,
     /// An ACK came for the INVITE.
     Ack,
-    /// An answer with this status code is to be sent.
+    /// A response with this status code is to be sent.
     Send(u16),
     /// A timer is due. Where it is not armed, nothing happens.
     Timer(ServerTimer),
@@ -61,9 +61,9 @@ pub enum ServerEvent {
 /// What the caller is to do after a step.
 #[derive(Clone, Copy, Debug, Default, PartialEq, Eq)]
 pub struct ServerActs {
-    /// Send the answer that was handed in.
+    /// Send the response that was handed in.
     pub send: bool,
-    /// Send the kept answer again.
+    /// Send the kept response again.
     pub repeat: bool,
     /// Hand the ACK on, as one that belongs to no transaction.
     pub loose_ack: bool,
@@ -91,9 +91,9 @@ impl Server {
     }
 }
 
-/// The answers, as the rows tell them apart.
+/// The responses, as the rows tell them apart.
 #[derive(Clone, Copy)]
-pub(crate) enum AnswerClass {
+pub(crate) enum ResponseClass {
     /// 100 to 199.
     Provisional,
     /// 200 to 299.

@@ -2,12 +2,12 @@
 
 ghost use Rattle.std.specs.Prelude.{◌≡◌, ℕ, ◌*◌, ◌↔◌, Some, None, true, false, IsTrue, IsSome};
 ghost use Rattle.txn_moments.specs.Moments.{t1, t4, moment_after, doubled_up_to_t2};
-ghost use Rattle.txn_server.specs.Rows.{ServerStep, answering, retrying, over, silent, sends, repeats};
+ghost use Rattle.txn_server.specs.Rows.{ServerStep, responding, server_retrying, server_over, server_silent, server_sends, repeats};
 ghost use Rattle.txn_server.specs.Timers.{due_of};
-ghost use Rattle.txn_server.specs.After.{Makes, ending, class_of, sent_at, copied_at, acked_at, fired_at};
+ghost use Rattle.txn_server.specs.After.{MakesServer, ending, class_of, sent_at, copied_at, acked_at, fired_at};
 
 use crate::machine::ServerState::{Accepted, Completed, Confirmed, Proceeding, Terminated, Trying};
-use crate::machine::{AnswerClass, Server, ServerActs, ServerEvent, ServerState, ServerTimer};
+use crate::machine::{ResponseClass, Server, ServerActs, ServerEvent, ServerState, ServerTimer};
 use txn_moments::{T1, T4, after, twice_up_to_t2};
 
 /// Lets `event` happen to `s` at the moment `now`, in milliseconds: makes the one row that the tables of RFC 3261, section
@@ -18,21 +18,21 @@ pub fn server_step(s: &mut Server, event: ServerEvent, now: u64) -> ServerActs
     match event {
         ServerEvent::Copy => s.copied(),
         ServerEvent::Ack => s.acked(now),
-        ServerEvent::Send(code) => s.answered_with(AnswerClass::of(code), now),
+        ServerEvent::Send(code) => s.responded_with(ResponseClass::of(code), now),
         ServerEvent::Timer(timer) => s.fired(timer, now),
     }
 }
 
-impl AnswerClass {
-    /// The class of an answer with this status code.
-    fn of(code: u16) -> AnswerClass
+impl ResponseClass {
+    /// The class of a response with this status code.
+    fn of(code: u16) -> ResponseClass
         ensures { result ≡ class_of code }
     {
         match code {
-            100..=199 => AnswerClass::Provisional,
-            200..=299 => AnswerClass::Success,
-            300..=699 => AnswerClass::Failure,
-            _ => AnswerClass::Neither,
+            100..=199 => ResponseClass::Provisional,
+            200..=299 => ResponseClass::Success,
+            300..=699 => ResponseClass::Failure,
+            _ => ResponseClass::Neither,
         }
     }
 }
@@ -45,7 +45,7 @@ impl ServerActs {
         loose_ack: false,
     };
 
-    /// The answer that was handed in is to be sent.
+    /// The response that was handed in is to be sent.
     const SENT: ServerActs = ServerActs {
         send: true,
         ..ServerActs::SILENT
@@ -57,7 +57,7 @@ impl ServerActs {
         ..ServerActs::SILENT
     };
 
-    /// The kept answer is to be sent again.
+    /// The kept response is to be sent again.
     const REPEATED: ServerActs = ServerActs {
         repeat: true,
         ..ServerActs::SILENT
@@ -67,7 +67,7 @@ impl ServerActs {
 impl Server {
     /// The request came again.
     fn copied(&mut self) -> ServerActs
-        ensures { Makes (copied_at self.old.invite self.old.state self.old) self.old self.new result }
+        ensures { MakesServer (copied_at self.old.invite self.old.state self.old) self.old self.new result }
     {
         match (self.invite, self.state) {
             (true, Proceeding) => ServerActs {
@@ -81,7 +81,7 @@ impl Server {
 
     /// An ACK came.
     fn acked(&mut self, now: u64) -> ServerActs
-        ensures { Makes (acked_at self.old.invite self.old.state self.old now) self.old self.new result }
+        ensures { MakesServer (acked_at self.old.invite self.old.state self.old now) self.old self.new result }
     {
         match (self.invite, self.state) {
             (true, Completed) => {
@@ -95,43 +95,43 @@ impl Server {
         }
     }
 
-    /// An answer is to be sent.
-    fn answered_with(&mut self, class: AnswerClass, now: u64) -> ServerActs
-        ensures { Makes (sent_at self.old.invite self.old.state class self.old now) self.old self.new result }
+    /// A response is to be sent.
+    fn responded_with(&mut self, class: ResponseClass, now: u64) -> ServerActs
+        ensures { MakesServer (sent_at self.old.invite self.old.state class self.old now) self.old self.new result }
     {
         if self.invite {
-            self.answer_invite(class, now)
+            self.respond_to_invite(class, now)
         } else {
-            self.answer_other(class, now)
+            self.respond_to_other(class, now)
         }
     }
 
-    /// An answer to an INVITE is to be sent.
-    fn answer_invite(&mut self, class: AnswerClass, now: u64) -> ServerActs
+    /// A response to an INVITE is to be sent.
+    fn respond_to_invite(&mut self, class: ResponseClass, now: u64) -> ServerActs
         requires { self.old.invite ≡ true }
-        ensures { Makes (sent_at self.old.invite self.old.state class self.old now) self.old self.new result }
+        ensures { MakesServer (sent_at self.old.invite self.old.state class self.old now) self.old self.new result }
     {
         match (self.state, class) {
-            (Proceeding, AnswerClass::Provisional) => self.answer(Proceeding),
-            (Proceeding, AnswerClass::Success) => self.close(Accepted, now),
-            (Proceeding, AnswerClass::Failure) => {
+            (Proceeding, ResponseClass::Provisional) => self.respond(Proceeding),
+            (Proceeding, ResponseClass::Success) => self.close(Accepted, now),
+            (Proceeding, ResponseClass::Failure) => {
                 self.repeat_in(now, T1);
                 self.close(Completed, now)
             }
-            (Completed | Confirmed | Terminated, AnswerClass::Success) => ServerActs::SENT,
-            (Accepted, AnswerClass::Success) => ServerActs::SENT,
+            (Completed | Confirmed | Terminated, ResponseClass::Success) => ServerActs::SENT,
+            (Accepted, ResponseClass::Success) => ServerActs::SENT,
             _ => ServerActs::SILENT,
         }
     }
 
-    /// An answer to another request is to be sent.
-    fn answer_other(&mut self, class: AnswerClass, now: u64) -> ServerActs
+    /// A response to another request is to be sent.
+    fn respond_to_other(&mut self, class: ResponseClass, now: u64) -> ServerActs
         requires { self.old.invite ≡ false }
-        ensures { Makes (sent_at self.old.invite self.old.state class self.old now) self.old self.new result }
+        ensures { MakesServer (sent_at self.old.invite self.old.state class self.old now) self.old self.new result }
     {
         match (self.state, class) {
-            (Trying | Proceeding, AnswerClass::Provisional) => self.answer(Proceeding),
-            (Trying | Proceeding, AnswerClass::Success | AnswerClass::Failure) => {
+            (Trying | Proceeding, ResponseClass::Provisional) => self.respond(Proceeding),
+            (Trying | Proceeding, ResponseClass::Success | ResponseClass::Failure) => {
                 self.close(Completed, now)
             }
             _ => ServerActs::SILENT,
@@ -140,7 +140,7 @@ impl Server {
 
     /// A timer is due, if it is armed.
     fn fired(&mut self, timer: ServerTimer, now: u64) -> ServerActs
-        ensures { Makes (fired_at self.old.invite self.old.state timer self.old now) self.old self.new result }
+        ensures { MakesServer (fired_at self.old.invite self.old.state timer self.old now) self.old self.new result }
     {
         match timer {
             ServerTimer::Retry => self.retry_fired(now),
@@ -150,7 +150,7 @@ impl Server {
 
     /// Timer G is due, if it is armed.
     fn retry_fired(&mut self, now: u64) -> ServerActs
-        ensures { Makes (fired_at self.old.invite self.old.state ServerTimer.Retry self.old now) self.old self.new result }
+        ensures { MakesServer (fired_at self.old.invite self.old.state ServerTimer.Retry self.old now) self.old self.new result }
     {
         match (self.invite, self.state) {
             (true, Completed) if self.retry.is_some() => {
@@ -163,7 +163,7 @@ impl Server {
 
     /// Timer H, I, J or L is due, if it is armed: the transaction is over.
     fn end_fired(&mut self) -> ServerActs
-        ensures { (now : ℕ) → Makes (fired_at self.old.invite self.old.state ServerTimer.End self.old now) self.old self.new result }
+        ensures { (now : ℕ) → MakesServer (fired_at self.old.invite self.old.state ServerTimer.End self.old now) self.old self.new result }
     {
         if self.end.is_none() {
             return ServerActs::SILENT;
@@ -179,28 +179,28 @@ impl Server {
         ServerActs::SILENT
     }
 
-    /// An answer is sent, and the transaction goes on in `state`.
-    fn answer(&mut self, state: ServerState) -> ServerActs
-        ensures server { self.new ≡ answering self.old state }
-        ensures acts { result ≡ sends }
+    /// A response is sent, and the transaction goes on in `state`.
+    fn respond(&mut self, state: ServerState) -> ServerActs
+        ensures server { self.new ≡ responding self.old state }
+        ensures acts { result ≡ server_sends }
     {
         self.state = state;
         self.answered = true;
         ServerActs::SENT
     }
 
-    /// A final answer is sent, and `state` absorbs copies of the request for 64 * T1.
+    /// A final response is sent, and `state` absorbs retransmissions of the request for 64 * T1.
     fn close(&mut self, state: ServerState, now: u64) -> ServerActs
         ensures server { self.new ≡ ending self.old state (moment_after now (64 * t1)) }
-        ensures acts { result ≡ sends }
+        ensures acts { result ≡ server_sends }
     {
         self.end = Some(after(now, 64 * T1));
-        self.answer(state)
+        self.respond(state)
     }
 
-    /// The answer is repeated in `interval` milliseconds.
+    /// The response is repeated in `interval` milliseconds.
     fn repeat_in(&mut self, now: u64, interval: u64)
-        ensures { self.new ≡ retrying self.old now interval }
+        ensures { self.new ≡ server_retrying self.old now interval }
     {
         self.retry = Some(after(now, interval));
         self.interval = interval;

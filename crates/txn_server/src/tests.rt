@@ -1,3 +1,5 @@
+//! Each row of the tables on a server of its own, and runs of a few steps.
+
 use super::*;
 use std::process::Abort;
 
@@ -128,7 +130,7 @@ fn a_refusal_without_an_ack(rt: HostRuntime) {
 }
 
 #[test]
-fn a_2xx_after_another_final_answer(rt: HostRuntime) {
+fn a_2xx_after_another_final_response(rt: HostRuntime) {
     use ServerState::{Completed, Confirmed, Terminated};
     walk(
         &rt,

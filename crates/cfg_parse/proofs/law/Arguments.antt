@@ -49,7 +49,7 @@ arg_begins _ _ rest (number_arg t n h) = unseen mark.CloseRound t rest h refl
 arg_begins _ _ rest (negative_arg m t n h k) = unseen mark.CloseRound m (t ∷ rest) h refl
 arg_begins _ _ rest (variable_arg t v h) = unseen mark.CloseRound t rest h refl
 
--- ---- further ones, each behind a comma
+-- ---- further ones, each after a comma
 
 pub data CommaArg : List Token → RawArg → Type 0 where
   comma_arg : (c : Token) (ts : List Token) (a : RawArg) → IsMark mark.Comma c → ArgIs ts a → CommaArg (c ∷ ts) a
@@ -78,7 +78,7 @@ of_parts : (ts us : List Token) (a : RawArg) (xs : List RawArg) → ArgIs ts a �
 of_parts ts _ a _ h none = subst (λ us. ArgsAre us (a ∷ [])) (sym (append-nil ts)) (last_arg ts a h)
 of_parts ts _ a _ h (more _ us _ xs (comma_arg c vs b k i) s) = more_args ts (vs ++ us) c a (b ∷ xs) h k (of_parts vs us b xs i s)
 
--- ---- all of them, and the bracket behind
+-- ---- all of them, and the bracket after
 
 pub data InBrackets : List Token → List RawArg → Type 0 where
   no_args : (right : Token) → IsMark mark.CloseRound right → InBrackets (right ∷ []) []

@@ -14,7 +14,7 @@ use Rattle.cfg_tree.specs.Tokens.{IsMark, IsKeyword}
 use Rattle.cfg_tree.specs.Grammar as tree
 use Rattle.cfg_tree.specs.Grammar.{CallIs, plain_call, call_with}
 use Rattle.cfg_parse.specs.Reader.{first}
-use Rattle.cfg_parse.specs.Calls.{function_call, route_call, call_by, call_of}
+use Rattle.cfg_parse.specs.Calls.{read_function_call, route_call, call_by, call_of}
 use Rattle.cfg_parse.proofs.law.Steps.{OnRead, found, and_so, read_then, Front, Takes, mark_takes, keyword_takes, mark_again, keyword_again, by_first}
 use Rattle.cfg_parse.proofs.law.OneToken.{NameIs, name_is, TargetIs, target_is, name_takes, target_takes, name_again, target_again}
 use Rattle.cfg_parse.proofs.law.Arguments.{InBrackets, no_args, with_args, args_takes, args_again}
@@ -26,8 +26,8 @@ function_is _ left _ _ _ (name_is f s h) k (with_args ts xs right d e) = call_wi
 route_is : (r left b right : Token) (w : Word) → IsKeyword word_is.Route r → IsMark mark.OpenRound left → TargetIs b w → IsMark mark.CloseRound right → CallIs (r ∷ left ∷ b ∷ right ∷ []) (call.Route w)
 route_is r left _ right _ h k (target_is b s i) e = tree.route_call r left b right s h k i e
 
-function_takes : Takes CallIs function_call
-unfolding function_call
+function_takes : Takes CallIs read_function_call
+unfolding read_function_call
 function_takes ts = and_so (name_takes ts) (λ w s n. and_so (mark_takes mark.OpenRound s) (λ _ u m. and_so (args_takes u) (λ xs rest f.
     found (call.Function w xs) rest (record { front = n.token ∷ m.token ∷ f.front; whole = cc; is = function_is n.token m.token f.front w xs n.is m.is f.is }))))
 
@@ -45,8 +45,8 @@ unfolding call_of first
 call_takes [] = function_takes []
 call_takes (t ∷ ts) = call_found t.lexeme (t ∷ ts)
 
-function_again : (f left : Token) (us : List Token) (w : Word) (xs : List RawArg) (rest : List Token) → NameIs f w → IsMark mark.OpenRound left → InBrackets us xs → function_call (f ∷ left ∷ us ++ rest) ≡ Some (call.Function w xs, rest)
-unfolding function_call
+function_again : (f left : Token) (us : List Token) (w : Word) (xs : List RawArg) (rest : List Token) → NameIs f w → IsMark mark.OpenRound left → InBrackets us xs → read_function_call (f ∷ left ∷ us ++ rest) ≡ Some (call.Function w xs, rest)
+unfolding read_function_call
 function_again f left us w xs rest n k d = read_then _ (name_again f (left ∷ us ++ rest) w n) (read_then _ (mark_again mark.OpenRound left (us ++ rest) k) (read_then _ (args_again us xs rest d) refl))
 
 pub call_again : (us : List Token) (c : RawCall) (rest : List Token) → CallIs us c → call_of (us ++ rest) ≡ Some (c, rest)

@@ -14,7 +14,7 @@ use Rattle.cfg_tree.specs.Tokens.{IsMark, IsKeyword}
 use Rattle.cfg_tree.specs.Grammar as tree
 use Rattle.cfg_tree.specs.Grammar.{ExprIs, IsExpr, JoinedAre}
 use Rattle.cfg_parse.specs.Reader.{Reader, ◌>>=◌, first, one, passed, is_keyword, sees_mark}
-use Rattle.cfg_parse.specs.Exprs.{factor_operator, term_operator, is_and, is_or, all, any, is_equal_in, myself, more_factors, product, more_terms, sum, compared_by, compared, comparison_by, comparison, more_of_all, all_of, more_of_any, any_of, bracketed, prefixed_by, prefixed, unary, expr_in, expr}
+use Rattle.cfg_parse.specs.Exprs.{factor_operator, term_operator, is_and, is_or, all, any, is_equal_in, read_myself, more_factors, product, more_terms, sum, compared_by, compared, comparison_by, comparison, more_of_all, all_of, more_of_any, any_of, bracketed, prefixed_by, prefixed, unary, read_expr, expr}
 use Rattle.cfg_parse.proofs.law.Steps.{read_then, mark_again, keyword_again, sees, eats, leaves, by_first}
 use Rattle.cfg_parse.proofs.law.OneToken.{one_again, string_is, string_again}
 use Rattle.cfg_parse.proofs.law.Links as links
@@ -47,7 +47,7 @@ any_whole _ _ _ e _ (tree.last_joined l room t ts x h k) = refl
 any_whole _ _ _ e _ (tree.more_joined l room t ts us x xs h k d) = refl
 
 myself_again : (u : Reader RawExpr) (a o m : Token) (rest : List Token) (b : Bool) → IsKeyword word_is.Uri a → one is_equal_in (o ∷ m ∷ rest) ≡ Some (b, m ∷ rest) → IsKeyword word_is.Myself m → comparison u (a ∷ o ∷ m ∷ rest) ≡ Some (roll-RawExpr (RawExpr-F.Myself b), rest)
-unfolding comparison myself
+unfolding comparison read_myself
 myself_again u a o m rest b h e k = by_first (comparison_by u) a (o ∷ m ∷ rest) h (read_then _ (keyword_again word_is.Uri a (o ∷ m ∷ rest) h) (read_then _ e (read_then _ (keyword_again word_is.Myself m rest k) refl)))
 
 module _ (room : ℕ) (u : Reader RawExpr) (operand : (us : List Token) (e : RawExpr) (rest : List Token) → ExprIs tree.Unary room us e → u (us ++ rest) ≡ Some (e, rest)) where
@@ -108,8 +108,8 @@ unary_again zero _ _ rest (tree.variable _ t v h) = atom_again _ _ rest (variabl
 unary_again zero _ _ rest (tree.code_of _ ts c d) = atom_again _ _ rest (call_atom ts c d)
 unary_again (suc room) us e rest d = prefixed_again room (unary room) (unary_again room) us e rest d
 
-expr_in_again : (room : ℕ) (us : List Token) (e : RawExpr) (rest : List Token) → ExprIs tree.Or room us e → AnyEnds (first rest) → expr_in room (us ++ rest) ≡ Some (e, rest)
-unfolding expr_in
+expr_in_again : (room : ℕ) (us : List Token) (e : RawExpr) (rest : List Token) → ExprIs tree.Or room us e → AnyEnds (first rest) → read_expr room (us ++ rest) ≡ Some (e, rest)
+unfolding read_expr
 expr_in_again room us e rest d f = any_again room (unary room) (unary_again room) us e rest d f
 
 pub expr_again : (us : List Token) (e : RawExpr) (rest : List Token) → IsExpr us e → AnyEnds (first rest) → expr (us ++ rest) ≡ Some (e, rest)

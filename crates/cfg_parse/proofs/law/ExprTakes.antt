@@ -16,7 +16,7 @@ use Rattle.cfg_tree.specs.Tokens.{IsMark, IsKeyword}
 use Rattle.cfg_tree.specs.Grammar as tree
 use Rattle.cfg_tree.specs.Grammar.{ExprIs, CompareIs, IsExpr}
 use Rattle.cfg_parse.specs.Reader.{Reader, first, passed}
-use Rattle.cfg_parse.specs.Exprs.{factor_operator, term_operator, comparison_operator, is_and, is_or, all, any, is_equal_in, myself, more_factors, product, more_terms, sum, compared_by, compared, comparison_by, comparison, more_of_all, all_of, more_of_any, any_of, bracketed, prefixed_by, prefixed, unary, expr_in, expr}
+use Rattle.cfg_parse.specs.Exprs.{factor_operator, term_operator, comparison_operator, is_and, is_or, all, any, is_equal_in, read_myself, more_factors, product, more_terms, sum, compared_by, compared, comparison_by, comparison, more_of_all, all_of, more_of_any, any_of, bracketed, prefixed_by, prefixed, unary, read_expr, expr}
 use Rattle.cfg_parse.proofs.law.Steps.{OnRead, found, and_so, Front, Takes, mark_takes, keyword_takes, eaten}
 use Rattle.cfg_parse.proofs.law.OneToken.{one_takes, StringIs, string_is, string_takes}
 use Rattle.cfg_parse.proofs.law.Links.{chained_takes}
@@ -24,7 +24,7 @@ use Rattle.cfg_parse.proofs.law.Joins.{gathered_takes}
 use Rattle.cfg_parse.proofs.law.Operators.{factor_is, term_is, comparison_is, and_is, or_is}
 use Rattle.cfg_parse.proofs.law.Atoms.{atom_takes}
 
--- ---- `myself`
+-- ---- `read_myself`
 
 pub data EqualIs : Token → Bool → Type 0 where
   equal_is : (t : Token) → IsMark mark.Equal t → EqualIs t true
@@ -39,8 +39,8 @@ myself_is : (room : ℕ) (u o m : Token) (b : Bool) → IsKeyword word_is.Uri u 
 myself_is room u _ m _ h (equal_is o e) k = tree.is_myself room u o m h e k
 myself_is room u _ m _ h (not_equal_is o e) k = tree.not_myself room u o m h e k
 
-myself_takes : (room : ℕ) → Takes (ExprIs tree.Comparison room) myself
-unfolding myself
+myself_takes : (room : ℕ) → Takes (ExprIs tree.Comparison room) read_myself
+unfolding read_myself
 myself_takes room ts = and_so (keyword_takes word_is.Uri ts) (λ _ s u. and_so (one_takes EqualIs is_equal_in equal_read s) (λ b v o. and_so (keyword_takes word_is.Myself v) (λ _ rest m.
     found _ rest (record { front = u.token ∷ o.token ∷ m.token ∷ []; whole = cc; is = myself_is room u.token o.token m.token b u.is o.is m.is }))))
 
@@ -134,8 +134,8 @@ unfolding unary
 unary_takes zero = atom_takes zero
 unary_takes (suc room) = prefixed_takes room (unary room) (unary_takes room)
 
-expr_in_takes : (room : ℕ) → Takes (ExprIs tree.Or room) (expr_in room)
-unfolding expr_in
+expr_in_takes : (room : ℕ) → Takes (ExprIs tree.Or room) (read_expr room)
+unfolding read_expr
 expr_in_takes room = any_takes room (unary room) (unary_takes room)
 
 pub expr_takes : Takes IsExpr expr

@@ -17,8 +17,8 @@ use Rattle.cfg_tree.specs.Grammar as tree
 use Rattle.cfg_tree.specs.Grammar.{EndIs, SettingIs, ValueIs, KindIs, NamedKindIs, HeadIs, StmtsAre, ItemIs, Derives}
 use Rattle.cfg_parse.specs.Reader.{and_then, pure, first, passed, after, is_mark, sees_mark}
 use Rattle.cfg_parse.specs.Stmts.{ends_list}
-use Rattle.cfg_parse.specs.declared.script.Kinds.{Kinds}
-use Rattle.cfg_parse.specs.Script.{setting_in, value_in, setting_of, value_of, module_of, module_parameter, parameter, route_kinds, kinds_of, alone_by, named_by, head_by, head_of, block, route_in, route_block, named_item, item_by, item_of, next_item, items}
+use Rattle.cfg_parse.specs.declared.script.BlockKinds.{BlockKinds}
+use Rattle.cfg_parse.specs.Script.{setting_in, setting_token, setting_of, value_of, module_of, module_parameter, parameter, route_kinds, kinds_of, alone_by, named_by, head_by, head_of, block, route_in, route_block, named_item, item_by, read_item, next_item, items}
 use Rattle.cfg_parse.proofs.law.Steps.{read_then, mark_again, keyword_again, sees, unseen, eats, leaves, by_first}
 use Rattle.cfg_parse.proofs.law.Several.{Several, none, more, many_again}
 use Rattle.cfg_parse.proofs.law.OneToken.{one_again, string_is, name_is, block_name_is, string_again, name_again, block_name_again}
@@ -42,31 +42,31 @@ setting_again _ ts _ (tree.listen_set t l h) = one_again setting_in t ts h refl
 
 value_again : (t : Token) (ts : List Token) (v : Setting) → ValueIs t v → value_of (t ∷ ts) ≡ Some (v, ts)
 unfolding value_of
-value_again _ ts _ (tree.number_value t n h) = one_again value_in t ts h refl
-value_again _ ts _ (tree.string_value t s h) = one_again value_in t ts h refl
+value_again _ ts _ (tree.number_value t n h) = one_again setting_token t ts h refl
+value_again _ ts _ (tree.string_value t s h) = one_again setting_token t ts h refl
 
 -- ---- blocks
 
 -- the token begins a block of one of these kinds, if no `=` follows
-abbrev pub BeginsBlock : Token → Kinds → Type 0
-BeginsBlock t kinds = (ts : List Token) → sees_mark mark.Assign ts ≡ false → item_of (t ∷ ts) ≡ block (t ∷ ts) t.at kinds ts
+abbrev pub BeginsBlock : Token → BlockKinds → Type 0
+BeginsBlock t kinds = (ts : List Token) → sees_mark mark.Assign ts ≡ false → read_item (t ∷ ts) ≡ block (t ∷ ts) t.at kinds ts
 
 route_begins : (t : Token) → IsKeyword word_is.Route t → BeginsBlock t route_kinds
-unfolding item_of route_block
+unfolding read_item route_block
 route_begins t h = λ ts f. by_first item_by t ts h (read_then _ (one_again route_in t ts h refl) refl)
 
 name_begins : (t : Token) (s : List ℕ) → IsA (lexeme.Name s) t → BeginsBlock t (kinds_of s)
-unfolding item_of named_item
+unfolding read_item named_item
 name_begins t s h = λ ts f. by_first item_by t ts h (read_then _ (name_again t ts _ (name_is t s h)) (leaves _ _ ts f refl))
 
-kind_begins : (t : Token) (kind : RouteKind) → KindIs t kind → (kinds : Kinds) × BeginsBlock t kinds × (kinds.alone ≡ Some kind)
+kind_begins : (t : Token) (kind : RouteKind) → KindIs t kind → (kinds : BlockKinds) × BeginsBlock t kinds × (kinds.alone ≡ Some kind)
 unfolding kinds_of
 kind_begins _ _ (tree.request_word t h) = (kinds_of (codes "request_route"), name_begins t (codes "request_route") h, refl)
 kind_begins _ _ (tree.route_word t h) = (route_kinds, route_begins t h, refl)
 kind_begins _ _ (tree.reply_word t h) = (kinds_of (codes "reply_route"), name_begins t (codes "reply_route") h, refl)
 kind_begins _ _ (tree.onreply_word t h) = (kinds_of (codes "onreply_route"), name_begins t (codes "onreply_route") h, refl)
 
-named_kind_begins : (t : Token) (kind : RouteKind) → NamedKindIs t kind → (kinds : Kinds) × BeginsBlock t kinds × (kinds.named ≡ Some kind)
+named_kind_begins : (t : Token) (kind : RouteKind) → NamedKindIs t kind → (kinds : BlockKinds) × BeginsBlock t kinds × (kinds.named ≡ Some kind)
 unfolding kinds_of
 named_kind_begins _ _ (tree.named_route t h) = (route_kinds, route_begins t h, refl)
 named_kind_begins _ _ (tree.named_branch t h) = (kinds_of (codes "branch_route"), name_begins t (codes "branch_route") h, refl)
@@ -74,8 +74,8 @@ named_kind_begins _ _ (tree.named_failure t h) = (kinds_of (codes "failure_route
 named_kind_begins _ _ (tree.named_onreply t h) = (kinds_of (codes "onreply_route"), name_begins t (codes "onreply_route") h, refl)
 named_kind_begins _ _ (tree.named_event t h) = (kinds_of (codes "event_route"), name_begins t (codes "event_route") h, refl)
 
--- the head is read behind its first token, and then the braces
-behind_head : (start ts us : List Token) (b d : Token) (kinds : Kinds) (kind : RouteKind) (name : Option Word) (at : Place) (ss : List RawStmt) (all rest : List Token) → all ++ rest ≡ start → head_of kinds ts ≡ Some ((kind, name), b ∷ (us ++ d ∷ rest)) → IsMark mark.OpenCurly b → StmtsAre 64 false us ss → IsMark mark.CloseCurly d → block start at kinds ts ≡ Some (item.Block (record { kind = kind; name = name; kind_at = at; at = whole all; body = ss }), rest)
+-- the head is read after its first token, and then the braces
+behind_head : (start ts us : List Token) (b d : Token) (kinds : BlockKinds) (kind : RouteKind) (name : Option Word) (at : Place) (ss : List RawStmt) (all rest : List Token) → all ++ rest ≡ start → head_of kinds ts ≡ Some ((kind, name), b ∷ (us ++ d ∷ rest)) → IsMark mark.OpenCurly b → StmtsAre 64 false us ss → IsMark mark.CloseCurly d → block start at kinds ts ≡ Some (item.Block (record { kind = kind; name = name; kind_at = at; at = whole all; body = ss }), rest)
 unfolding block
 behind_head start ts us b d kinds kind name at ss all rest w e h s k =
     read_then _ e
@@ -84,31 +84,31 @@ behind_head start ts us b d kinds kind name at ss all rest w e h s k =
     (read_then _ (mark_again mark.CloseCurly d rest k)
     (ap (λ (place : Place). Some (item.Block (record { kind = kind; name = name; kind_at = at; at = place; body = ss }), rest)) (placed start all rest (sym w))))))
 
-head_alone : (kinds : Kinds) (kind : RouteKind) (b : Token) (ts : List Token) → kinds.alone ≡ Some kind → IsMark mark.OpenCurly b → head_of kinds (b ∷ ts) ≡ Some ((kind, None), b ∷ ts)
+head_alone : (kinds : BlockKinds) (kind : RouteKind) (b : Token) (ts : List Token) → kinds.alone ≡ Some kind → IsMark mark.OpenCurly b → head_of kinds (b ∷ ts) ≡ Some ((kind, None), b ∷ ts)
 unfolding head_of
 head_alone kinds kind b ts e h = by_first (head_by kinds) b ts h (ap (λ (o : Option RouteKind). alone_by o (b ∷ ts)) e)
 
-head_named : (kinds : Kinds) (kind : RouteKind) (left n right : Token) (s : List ℕ) (ts : List Token) → kinds.named ≡ Some kind → IsMark mark.OpenSquare left → IsA (lexeme.BlockName s) n → IsMark mark.CloseSquare right → head_of kinds (left ∷ n ∷ right ∷ ts) ≡ Some ((kind, Some (record { text = s; at = n.at })), ts)
+head_named : (kinds : BlockKinds) (kind : RouteKind) (left n right : Token) (s : List ℕ) (ts : List Token) → kinds.named ≡ Some kind → IsMark mark.OpenSquare left → IsA (lexeme.BlockName s) n → IsMark mark.CloseSquare right → head_of kinds (left ∷ n ∷ right ∷ ts) ≡ Some ((kind, Some (record { text = s; at = n.at })), ts)
 unfolding head_of
 head_named kinds kind left n right s ts e h i k = by_first (head_by kinds) left (n ∷ right ∷ ts) h
     (ap (λ (o : Option RouteKind). named_by o (left ∷ n ∷ right ∷ ts)) e ∙ read_then _ (mark_again mark.OpenSquare left (n ∷ right ∷ ts) h) (read_then _ (block_name_again n (right ∷ ts) _ (block_name_is n s i)) (read_then _ (mark_again mark.CloseSquare right ts k) refl)))
 
-block_again : (all hs ts : List Token) (b d : Token) (kind : RouteKind) (name : Option Word) (at : Place) (ss : List RawStmt) (rest : List Token) → all ≡ hs ++ b ∷ ts ++ d ∷ [] → HeadIs hs kind name at → IsMark mark.OpenCurly b → StmtsAre 64 false ts ss → IsMark mark.CloseCurly d → item_of (all ++ rest) ≡ Some (item.Block (record { kind = kind; name = name; kind_at = at; at = whole all; body = ss }), rest)
+block_again : (all hs ts : List Token) (b d : Token) (kind : RouteKind) (name : Option Word) (at : Place) (ss : List RawStmt) (rest : List Token) → all ≡ hs ++ b ∷ ts ++ d ∷ [] → HeadIs hs kind name at → IsMark mark.OpenCurly b → StmtsAre 64 false ts ss → IsMark mark.CloseCurly d → read_item (all ++ rest) ≡ Some (item.Block (record { kind = kind; name = name; kind_at = at; at = whole all; body = ss }), rest)
 block_again all _ ts b d _ _ _ ss rest p (tree.unnamed t kind i) h s k =
     let w : all ++ rest ≡ t ∷ b ∷ (ts ++ d ∷ rest) = ap (λ vs. vs ++ rest) p ∙ ap (λ vs. t ∷ b ∷ vs) (append_assoc ts (d ∷ []) rest) in
     let g = kind_begins t kind i in
-    ap item_of w ∙ g.1 (b ∷ (ts ++ d ∷ rest)) (unseen mark.Assign b (ts ++ d ∷ rest) h refl)
+    ap read_item w ∙ g.1 (b ∷ (ts ++ d ∷ rest)) (unseen mark.Assign b (ts ++ d ∷ rest) h refl)
     ∙ behind_head (t ∷ b ∷ (ts ++ d ∷ rest)) (b ∷ (ts ++ d ∷ rest)) ts b d g.0 kind None t.at ss all rest w (head_alone g.0 kind b (ts ++ d ∷ rest) g.2 h) h s k
 block_again all _ ts b d _ _ _ ss rest p (tree.named t left n right kind name i j l m) h s k =
     let w : all ++ rest ≡ t ∷ left ∷ n ∷ right ∷ b ∷ (ts ++ d ∷ rest) = ap (λ vs. vs ++ rest) p ∙ ap (λ vs. t ∷ left ∷ n ∷ right ∷ b ∷ vs) (append_assoc ts (d ∷ []) rest) in
     let g = named_kind_begins t kind i in
-    ap item_of w ∙ g.1 (left ∷ n ∷ right ∷ b ∷ (ts ++ d ∷ rest)) (unseen mark.Assign left (n ∷ right ∷ b ∷ (ts ++ d ∷ rest)) j refl)
+    ap read_item w ∙ g.1 (left ∷ n ∷ right ∷ b ∷ (ts ++ d ∷ rest)) (unseen mark.Assign left (n ∷ right ∷ b ∷ (ts ++ d ∷ rest)) j refl)
     ∙ behind_head (t ∷ left ∷ n ∷ right ∷ b ∷ (ts ++ d ∷ rest)) (left ∷ n ∷ right ∷ b ∷ (ts ++ d ∷ rest)) ts b d g.0 kind (Some (record { text = name; at = n.at })) t.at ss all rest w (head_named g.0 kind left n right name (b ∷ (ts ++ d ∷ rest)) g.2 j l m) h s k
 
 -- ---- items
 
-item_again : (us : List Token) (i : RawItem) (rest : List Token) → ItemIs us i → sees_mark mark.Semicolon rest ≡ false → item_of (us ++ rest) ≡ Some (i, rest)
-unfolding item_of named_item parameter module_of module_parameter
+item_again : (us : List Token) (i : RawItem) (rest : List Token) → ItemIs us i → sees_mark mark.Semicolon rest ≡ false → read_item (us ++ rest) ≡ Some (i, rest)
+unfolding read_item named_item parameter module_of module_parameter
 item_again _ _ rest (tree.parameter n a v us name value h k d e) f =
     by_first item_by n (a ∷ v ∷ us ++ rest) h
     (read_then _ (name_again n (a ∷ v ∷ us ++ rest) _ (name_is n name h))
@@ -173,7 +173,7 @@ item_some us i d = by us (begins us i d)
     by : (us : List Token) → ItemBegins us → 0 < length us
     by _ (item_begins t ts h) = omega arith
 
-next_of : (us rest : List Token) → ItemBegins us → next_item (us ++ rest) ≡ and_then (item_of (us ++ rest)) (λ i. pure (Some i))
+next_of : (us rest : List Token) → ItemBegins us → next_item (us ++ rest) ≡ and_then (read_item (us ++ rest)) (λ i. pure (Some i))
 unfolding next_item first
 next_of _ rest (item_begins t ts h) = refl
 

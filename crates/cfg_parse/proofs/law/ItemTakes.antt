@@ -17,8 +17,8 @@ use Rattle.cfg_tree.specs.Tokens.{IsMark, IsKeyword}
 use Rattle.cfg_tree.specs.Grammar as tree
 use Rattle.cfg_tree.specs.Grammar.{EndIs, SettingIs, ValueIs, KindIs, NamedKindIs, HeadIs, StmtsAre, ItemIs, Derives}
 use Rattle.cfg_parse.specs.Reader.{first, passed, after, is_mark, sees_mark, place_since}
-use Rattle.cfg_parse.specs.declared.script.Kinds.{Kinds}
-use Rattle.cfg_parse.specs.Script.{setting_in, value_in, setting_of, value_of, module_of, module_parameter, parameter, route_kinds, kinds_of, alone_by, named_by, head_by, head_of, block, route_in, route_block, named_item, item_by, item_of, next_item, items}
+use Rattle.cfg_parse.specs.declared.script.BlockKinds.{BlockKinds}
+use Rattle.cfg_parse.specs.Script.{setting_in, setting_token, setting_of, value_of, module_of, module_parameter, parameter, route_kinds, kinds_of, alone_by, named_by, head_by, head_of, block, route_in, route_block, named_item, item_by, read_item, next_item, items}
 use Rattle.cfg_parse.proofs.law.Steps.{OnRead, nothing, found, and_so, weaker, Front, Takes, mark_is, mark_takes, keyword_takes, eaten}
 use Rattle.cfg_parse.proofs.law.Several.{Several, none, more, OnStep, many_takes}
 use Rattle.cfg_parse.proofs.law.OneToken.{one_takes, StringIs, string_is, NameIs, name_is, BlockNameIs, block_name_is, string_takes, name_takes, block_name_takes}
@@ -44,7 +44,7 @@ setting_read (lexeme.Name s) at = tree.name_set (record { lexeme = lexeme.Name s
 setting_read (lexeme.Listen l) at = tree.listen_set (record { lexeme = lexeme.Listen l; at = at }) l refl
 setting_read _ at = tt
 
-value_read : (x : Lexeme) (at : Place) → IfSome (value_in x at) (λ v. ValueIs (record { lexeme = x; at = at }) v)
+value_read : (x : Lexeme) (at : Place) → IfSome (setting_token x at) (λ v. ValueIs (record { lexeme = x; at = at }) v)
 value_read (lexeme.Number (pos n)) at = tree.number_value (record { lexeme = lexeme.Number (pos n); at = at }) n refl
 value_read (lexeme.String s) at = tree.string_value (record { lexeme = lexeme.String s; at = at }) s refl
 value_read _ at = tt
@@ -66,7 +66,7 @@ parameter_of_is k o _ c _ d v e us _ _ x h1 h2 (string_is m s h3) h4 (string_is 
 module_parameter_takes : Takes ItemIs module_parameter
 unfolding module_parameter value_of
 module_parameter_takes ts = and_so (keyword_takes word_is.Modparam ts) (λ _ t1 k. and_so (mark_takes mark.OpenRound t1) (λ _ t2 o. and_so (string_takes t2) (λ of t3 m. and_so (mark_takes mark.Comma t3) (λ _ t4 c.
-    and_so (string_takes t4) (λ w t5 n. and_so (mark_takes mark.Comma t5) (λ _ t6 d. and_so (one_takes ValueIs value_in value_read t6) (λ x t7 v. and_so (mark_takes mark.CloseRound t7) (λ _ t8 e.
+    and_so (string_takes t4) (λ w t5 n. and_so (mark_takes mark.Comma t5) (λ _ t6 d. and_so (one_takes ValueIs setting_token value_read t6) (λ x t7 v. and_so (mark_takes mark.CloseRound t7) (λ _ t8 e.
     let z = end_taken t8 in
     found _ _ (record {
       front = k.token ∷ o.token ∷ m.token ∷ c.token ∷ n.token ∷ d.token ∷ v.token ∷ e.token ∷ z.0;
@@ -79,7 +79,7 @@ parameter_is _ a v us _ x (name_is n s h) k d e = tree.parameter n a v us s x h 
 
 -- ---- blocks
 
--- the head of a block, behind the word that begins it
+-- the head of a block, after the word that begins it
 abbrev pub HeadBehind : Token → List Token → RouteKind × Option Word → Type 0
 HeadBehind t us head = HeadIs (t ∷ us) head.0 head.1 t.at
 
@@ -95,11 +95,11 @@ named_takes t None h ts = nothing
 named_takes t (Some kind) h ts = and_so (mark_takes mark.OpenSquare ts) (λ _ u l. and_so (block_name_takes u) (λ w v b. and_so (mark_takes mark.CloseSquare v) (λ _ rest r.
     found (kind, Some w) rest (record { front = l.token ∷ b.token ∷ r.token ∷ []; whole = cc; is = named_is t l.token b.token r.token kind w h l.is b.is r.is }))))
 
-head_found : (t : Token) (kinds : Kinds) → KindsFor t kinds → (x : Lexeme) (ts : List Token) → OnRead (Front (HeadBehind t) ts) (head_by kinds (Some x) ts)
+head_found : (t : Token) (kinds : BlockKinds) → KindsFor t kinds → (x : Lexeme) (ts : List Token) → OnRead (Front (HeadBehind t) ts) (head_by kinds (Some x) ts)
 head_found t kinds h (lexeme.Mark mark.OpenSquare) ts = named_takes t kinds.named h.named ts
 head_found t kinds h _ ts = alone_takes t kinds.alone h.alone ts
 
-head_takes : (t : Token) (kinds : Kinds) → KindsFor t kinds → Takes (HeadBehind t) (head_of kinds)
+head_takes : (t : Token) (kinds : BlockKinds) → KindsFor t kinds → Takes (HeadBehind t) (head_of kinds)
 unfolding head_of first
 head_takes t kinds h [] = alone_takes t kinds.alone h.alone []
 head_takes t kinds h (u ∷ us) = head_found t kinds h u.lexeme (u ∷ us)
@@ -110,7 +110,7 @@ block_is start t b d hs ts rest head ss e h k s c =
     subst (λ (at : Place). ItemIs us (item.Block (record { kind = head.0; name = head.1; kind_at = t.at; at = at; body = ss }))) (sym (placed start us rest e))
     (tree.block us (t ∷ hs) ts b d head.0 head.1 t.at ss (ap (λ us. t ∷ us) (sym (append_assoc hs (b ∷ ts) (d ∷ [])))) h k s c)
 
-block_takes : (start ts : List Token) (t : Token) (kinds : Kinds) → start ≡ t ∷ ts → KindsFor t kinds → OnRead (Front ItemIs start) (block start t.at kinds ts)
+block_takes : (start ts : List Token) (t : Token) (kinds : BlockKinds) → start ≡ t ∷ ts → KindsFor t kinds → OnRead (Front ItemIs start) (block start t.at kinds ts)
 unfolding block
 block_takes start ts t kinds e h = and_so (head_takes t kinds h ts) (λ head u f. and_so (mark_takes mark.OpenCurly u) (λ _ v b. and_so (body_takes v) (λ ss w s. and_so (mark_takes mark.CloseCurly w) (λ _ rest d.
     let whole : start ≡ (t ∷ f.front ++ b.token ∷ (s.front ++ d.token ∷ [])) ++ rest = (let p = append_assoc f.front (b.token ∷ (s.front ++ d.token ∷ [])) rest in let q = append_assoc s.front (d.token ∷ []) rest in cc) in
@@ -150,7 +150,7 @@ item_found (lexeme.Keyword word_is.Route) ts = route_takes ts
 item_found _ ts = named_item_takes ts
 
 next_takes : (ts : List Token) → OnRead (OnStep ItemIs ts) (next_item ts)
-unfolding next_item item_of first
+unfolding next_item read_item first
 next_takes [] = found None [] refl
 next_takes (t ∷ ts) = and_so (item_found t.lexeme (t ∷ ts)) (λ i rest f. found (Some i) rest f)
 

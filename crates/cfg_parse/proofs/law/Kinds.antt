@@ -9,18 +9,18 @@ use Rattle.cfg_tree.specs.declared.token.Keyword.TheVariants as word_is
 use Rattle.cfg_tree.specs.Tokens.{IsA, IsKeyword}
 use Rattle.cfg_tree.specs.Grammar as tree
 use Rattle.cfg_tree.specs.Grammar.{KindIs, NamedKindIs}
-use Rattle.cfg_parse.specs.declared.script.Kinds.{Kinds}
+use Rattle.cfg_parse.specs.declared.script.BlockKinds.{BlockKinds}
 use Rattle.cfg_parse.specs.Script.{route_kinds, kinds_of}
 
 -- these are the kinds of a block that the token begins
-pub record KindsFor (t : Token) (kinds : Kinds) : Type 0 where
+pub record KindsFor (t : Token) (kinds : BlockKinds) : Type 0 where
   pub alone : IfSome kinds.alone (λ kind. KindIs t kind)
   pub named : IfSome kinds.named (λ kind. NamedKindIs t kind)
 
 pub route_kinds_for : (t : Token) → IsKeyword word_is.Route t → KindsFor t route_kinds
 route_kinds_for t h = record { alone = tree.route_word t h; named = tree.named_route t h }
 
-chosen : (t : Token) (s text : List ℕ) (these others : Kinds) → IsA (lexeme.Name s) t → (IsA (lexeme.Name text) t → KindsFor t these) → KindsFor t others → KindsFor t (if bytes_eq s text then these else others)
+chosen : (t : Token) (s text : List ℕ) (these others : BlockKinds) → IsA (lexeme.Name s) t → (IsA (lexeme.Name text) t → KindsFor t these) → KindsFor t others → KindsFor t (if bytes_eq s text then these else others)
 chosen t s text these others h f g = by (bytes_eq s text) (λ e. h ∙ ap (λ (u : List ℕ). lexeme.Name u) ((bytes_eq-Decides s text).0 e))
   where
     by : (b : Bool) → (b ≡ true → IsA (lexeme.Name text) t) → KindsFor t (if b then these else others)

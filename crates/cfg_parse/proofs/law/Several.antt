@@ -1,4 +1,4 @@
--- Items, one behind the other, and how they are read one by one.
+-- Items, one after the other, and how they are read one by one.
 use Rattle.std.specs.Prelude.{ℕ, zero, suc, ◌+◌, ◌<◌, ◌≤◌, List, [], ◌∷◌, ◌++◌, length, Option, Some, None}
 use Rattle.std.proofs.Common.{◌≡◌, refl, sym, ap, subst, ◌∙◌, append_assoc, append-nil, arith, length-append}
 use Rattle.cfg_tree.specs.declared.token.Token.{Token}
@@ -14,7 +14,7 @@ abbrev pub OnStep : {A : Type 0} (Item : List Token → A → Type 0) → List T
 OnStep Item ts None rest = ts ≡ rest
 OnStep Item ts (Some a) rest = Front Item ts a rest
 
--- behind those that were found
+-- after those that were found
 abbrev pub Behind : {A : Type 0} (Item : List Token → A → Type 0) → List A → List Token → List A → Type 0
 Behind {A} Item before us xs = (items : List A) × (xs ≡ before ++ items) × Several Item us items
 

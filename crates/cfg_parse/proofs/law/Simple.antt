@@ -16,7 +16,7 @@ use Rattle.cfg_tree.specs.Tokens.{IsMark, IsKeyword, whole}
 use Rattle.cfg_tree.specs.Grammar as tree
 use Rattle.cfg_tree.specs.Grammar.{IsExpr, StmtIs}
 use Rattle.cfg_parse.specs.Reader.{and_then, pure, place_since, sees_keyword}
-use Rattle.cfg_parse.specs.Stmts.{condition, assignment, call_alone, returned, return_of, alone, exit_alone, drop_alone, break_alone, empty}
+use Rattle.cfg_parse.specs.Stmts.{condition, assignment, call_alone, read_returned, return_of, alone, exit_alone, drop_alone, break_alone, empty}
 use Rattle.cfg_parse.proofs.law.Steps.{OnRead, found, and_so, Takes, mark_takes, keyword_takes, eaten}
 use Rattle.cfg_parse.proofs.law.OneToken.{VariableIs, variable_is, variable_takes}
 use Rattle.cfg_parse.proofs.law.Calls.{call_takes}
@@ -112,8 +112,8 @@ pub data ReturnedIs : List Token → Option RawExpr → Type 0 where
   no_value : (c : Token) → IsMark mark.Semicolon c → ReturnedIs (c ∷ []) None
   with_value : (ts : List Token) (c : Token) (e : RawExpr) → IsExpr ts e → IsMark mark.Semicolon c → ReturnedIs (ts ++ c ∷ []) (Some e)
 
-returned_takes : Takes ReturnedIs returned
-unfolding returned
+returned_takes : Takes ReturnedIs read_returned
+unfolding read_returned
 returned_takes ts = eaten mark.Semicolon ts _ _
     (λ c mid e h. found None mid (record { front = c ∷ []; whole = e; is = no_value c h }))
     (and_so (expr_takes ts) (λ e s f. and_so (mark_takes mark.Semicolon s) (λ _ rest c.

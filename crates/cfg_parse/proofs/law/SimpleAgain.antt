@@ -18,7 +18,7 @@ use Rattle.cfg_tree.specs.Tokens.{IsA, IsMark, IsKeyword, whole}
 use Rattle.cfg_tree.specs.Grammar as tree
 use Rattle.cfg_tree.specs.Grammar.{IsExpr, CallIs, LabelIs}
 use Rattle.cfg_parse.specs.Reader.{Reader, place_since}
-use Rattle.cfg_parse.specs.Stmts.{condition, assignment, call_alone, returned, return_of, alone, empty, label_in, label, stmt_by, stmt_over}
+use Rattle.cfg_parse.specs.Stmts.{condition, assignment, call_alone, read_returned, return_of, alone, empty, label_in, label, stmt_by, stmt_over}
 use Rattle.cfg_parse.proofs.law.Steps.{read_then, mark_again, keyword_again, sees, eats, leaves, by_first}
 use Rattle.cfg_parse.proofs.law.OneToken.{variable_is, variable_again, one_again}
 use Rattle.cfg_parse.proofs.law.Calls.{call_again}
@@ -70,14 +70,14 @@ module _ (inner : Bool → Reader RawStmt) (loop : Bool) where
       (at_whole (λ at. roll-RawStmt (RawStmt-F.Do at f)) (ts ++ c ∷ rest) us rest w))
 
   pub return_alone_again : (r c : Token) (rest : List Token) → IsKeyword word_is.Return r → IsMark mark.Semicolon c → stmt_over inner loop (r ∷ c ∷ rest) ≡ Some (roll-RawStmt (RawStmt-F.Return (whole (r ∷ c ∷ [])) None), rest)
-  unfolding stmt_over return_of returned
+  unfolding stmt_over return_of read_returned
   return_alone_again r c rest h k = by_first (stmt_by inner loop) r (c ∷ rest) h
       (read_then _ (keyword_again word_is.Return r (c ∷ rest) h)
       (read_then _ (eats _ _ c rest (sees mark.Semicolon c rest k) refl)
       (at_whole (λ at. roll-RawStmt (RawStmt-F.Return at None)) (r ∷ c ∷ rest) (r ∷ c ∷ []) rest refl)))
 
   pub return_again : (us ts : List Token) (r c : Token) (e : RawExpr) (rest : List Token) → us ≡ r ∷ ts ++ c ∷ [] → IsKeyword word_is.Return r → IsExpr ts e → IsMark mark.Semicolon c → stmt_over inner loop (us ++ rest) ≡ Some (roll-RawStmt (RawStmt-F.Return (whole us) (Some e)), rest)
-  unfolding stmt_over return_of returned
+  unfolding stmt_over return_of read_returned
   return_again us ts r c e rest p h d k =
       let w : us ++ rest ≡ r ∷ (ts ++ c ∷ rest) = ap (λ vs. vs ++ rest) p ∙ ap (λ vs. r ∷ vs) (append_assoc ts (c ∷ []) rest) in
       ap (stmt_over inner loop) w ∙ by_first (stmt_by inner loop) r (ts ++ c ∷ rest) h

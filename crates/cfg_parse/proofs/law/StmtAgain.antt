@@ -68,7 +68,7 @@ module _ (room : ℕ) (inner : Bool → Reader RawStmt) (within : (loop dangles 
   default_again _ _ d rest (tree.no_default _) h = read_then _ (behind_none word_is.Default _ (d ∷ rest) (unseen_word word_is.Default d rest h refl)) refl
   default_again _ _ d rest (tree.default_of _ ts k c ss i j s) h = read_then _ (behind_again word_is.Default _ k (c ∷ ts ++ d ∷ rest) i (read_then _ (mark_again mark.Colon c (ts ++ d ∷ rest) j) (stmts_again true ts ss (d ∷ rest) s (at_first (λ o. ends_list o ≡ true) d rest h refl)))) refl
 
-  -- behind the cases
+  -- after the cases
   default_ends : (vs : List Token) (last : List RawStmt) (d : Token) (rest : List Token) → DefaultIs room vs last → IsMark mark.CloseCurly d → ends_list (first (vs ++ d ∷ rest)) ≡ true
   default_ends _ _ d rest (tree.no_default _) h = at_first (λ o. ends_list o ≡ true) d rest h refl
   default_ends _ _ d rest (tree.default_of _ ts k c ss i j s) h = at_first (λ o. ends_list o ≡ true) k (c ∷ ts ++ d ∷ rest) i refl

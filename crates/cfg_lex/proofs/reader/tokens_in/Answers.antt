@@ -1,12 +1,15 @@
-use Rattle.std.proofs.Common.{◌≡◌, length, take, drop, ◌-◌, arith, Ok, subst}
+use Rattle.std.proofs.Common.{◌≡◌, length, take, drop, ◌-◌, arith, Ok, sym, subst}
+use Rattle.pv_values.specs.declared.refusal.ScriptFault.TheVariants.{Refused}
 use Rattle.cfg_lex.specs.declared.shape.Found.TheVariants.{Gap, Token}
 use Rattle.cfg_lex.specs.Shapes.{FitsIn}
-use Rattle.cfg_lex.specs.Tokens.{too_long}
+use Rattle.cfg_lex.specs.Tokens.{place_between, longest, FaultOf, too_long}
 use Rattle.cfg_lex.proofs.Reading.{Read, as_read, rest_len, seen_gap, seen_token, seen_end, seen_fault, fault_of}
 use Rattle.cfg_lex.proofs.reader.tokens_in.Goals as goal
 
 pub returns-then-text-gt-LONGEST-clause-fault : goal.returns-then-text-gt-LONGEST-clause-fault
-returns-then-text-gt-LONGEST-clause-fault c = too_long c.args.text.now c.if-text-gt-LONGEST.true
+returns-then-text-gt-LONGEST-clause-fault c =
+    let text = c.args.text.now in
+    subst (λ kind. FaultOf text (Refused kind (place_between longest (length text)))) (sym c.number.ensures) (too_long text c.if-text-gt-LONGEST.true)
 
 pub returns-in-Err-clause-fault : goal.returns-in-Err-clause-fault
 returns-in-Err-clause-fault c =

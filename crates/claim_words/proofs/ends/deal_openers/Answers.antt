@@ -1,7 +1,7 @@
 use Rattle.std.proofs.Common.{rules, ◌≡◌, ◌+◌, ◌-◌, ℕ, arith, refl, sym, ap, ◌∙◌, subst, []}
 use mathlib.Core.Option.{some}
 use lib.ListN.{get_elem?}
-use Rattle.claim_words.specs.Claims.{maker, desk, dealt, fresh}
+use Rattle.claim_words.specs.Claims.{maker, desk, dealt, fresh_desk}
 use Rattle.claim_words.proofs.Seats.{deals, one_more}
 use Rattle.claim_words.proofs.ends.deal_openers.Goals as goal
 
@@ -16,6 +16,6 @@ loop-slot-preserved c = let i = c.loop-slot.invariant in let e = c.split_seat-se
   openers = subst (λ ps. (j : ℕ) (q : _) → get_elem? ps j ≡ some q → (q.seat.table_id ≡ c.args.words.now.table_id) × (q.seat.me ≡ (desk (w + j) j, [])) × (q.slot ≡ j) × (q.last ≡ 0)) (sym p.items)
       (one_more (λ j q. (q.seat.table_id ≡ c.args.words.now.table_id) × (q.seat.me ≡ (desk (w + j) j, [])) × (q.slot ≡ j) × (q.last ≡ 0)) c.loop-slot.openers.items _ i.openers
       (subst (λ (n : ℕ). (c.split_seat-seat.result.table_id ≡ c.args.words.now.table_id) × (c.split_seat-seat.result.me ≡ (desk (w + n) n, [])) × (m ≡ n) × (◌≡◌ {A = ℕ} 0 0)) (let l = c.loop-slot.openers.ok.0 in let n = i.count in omega arith)
-      (e.3 ∙ i.table, e.4 ∙ (ap (λ z. (fresh z.0, [])) i.view ∙ ap (λ (k : ℕ). (desk (w + m) k, [])) (let a : w + m - w ≡ m = omega arith in a)), refl, refl)));
+      (e.3 ∙ i.table, e.4 ∙ (ap (λ z. (fresh_desk z.0, [])) i.view ∙ ap (λ (k : ℕ). (desk (w + m) k, [])) (let a : w + m - w ≡ m = omega arith in a)), refl, refl)));
   room = search rules;
 }

@@ -9,5 +9,5 @@ pub returns : goal.returns
 returns c =
     let b = c.args.b.now in
     let m = c.args.m.now in
-    let cseq : c.as_bytes-2.result.now ≡ codes "CSeq: " ++ (decimal m.cseq.number ++ (codes " " ++ (c.args.method.now ++ codes "\r\n"))) = c.as_bytes-2.ensures.value ∙ c.as_str.ensures.value ∙ c.cseq_line-cseq.ensures in
+    let cseq : c.as_bytes-2.result.now ≡ codes "CSeq: " ++ (decimal m.cseq.number ++ (codes " " ++ (c.args.method.now ++ codes "\r\n"))) = c.as_bytes-2.ensures.value ∙ c.as_str.ensures.value ∙ c.cseq_text-cseq.ensures in
     hopped _ c.args.method.now b m c.args.to.now c.fit.ensures (rw (c.as_bytes.ensures.value, c.uri_of-uri.ensures) refl) (rw c.as_slice-fields.ensures.value (routes_are b m.head.fields.items)) (rw (c.field_text.ensures, c.field_text-2.ensures, c.as_slice-fields.ensures.value, cseq) refl)

@@ -9,7 +9,7 @@ pub returns-in-Ack : goal.returns-in-Ack
 returns-in-Ack c = makes_at _ _ _ _ _ _ c.in-Ack.is c.acked.ensures
 
 pub returns-in-Send : goal.returns-in-Send
-returns-in-Send c = makes_sent _ _ _ c.in-Send.code _ _ _ c.in-Send.is c.of.ensures c.answered_with.ensures
+returns-in-Send c = makes_sent _ _ _ c.in-Send.code _ _ _ c.in-Send.is c.of.ensures c.responded_with.ensures
 
 pub returns-in-Timer : goal.returns-in-Timer
 returns-in-Timer c = makes_at _ _ _ _ _ _ c.in-Timer.is c.fired.ensures

@@ -1,5 +1,5 @@
 use Rattle.std.proofs.Common.{◌+◌, ap, ◌∙◌}
-use Rattle.buf_pool.specs.Holders.{one_more}
+use Rattle.buf_pool.specs.Holders.{one_more_out}
 use Rattle.buf_pool.proofs.Balance.{lends}
 use Rattle.buf_pool.proofs.ledger.Ledger.lend.Goals as goal
 
@@ -18,5 +18,5 @@ invariant_of-self c =
       some_word = i.some_word;
       first = e.1 ∙ i.first;
       empty = ap (λ me. me.1) e.2 ∙ i.empty;
-      keeps = (i.keeps.0 + 1, ap (λ me. me.0) e.2 ∙ ap one_more i.keeps.1);
+      keeps = (i.keeps.0 + 1, ap (λ me. me.0) e.2 ∙ ap one_more_out i.keeps.1);
     }

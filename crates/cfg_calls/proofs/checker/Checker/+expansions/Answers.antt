@@ -8,6 +8,7 @@ use Rattle.cfg_calls.specs.Following.{Follows}
 use Rattle.cfg_calls.proofs.Expansions.{answered, no_pieces, by_pieces, transformed_by}
 use Rattle.cfg_calls.proofs.Follows.{each_item, each_whole}
 use Rattle.cfg_calls.proofs.checker.Checker.+expansions.Goals as goal
+use Rattle.cfg_tree.specs.declared.refusal_kind.RefusalKind.TheVariants.{UnknownVariable}
 
 pub expansion_within-returns-in_default : goal.expansion_within-returns-in_default
 expansion_within-returns-in_default t c =
@@ -27,5 +28,5 @@ expansion_within-returns t c =
 
 pub variable_within-returns-in_ok-transformation-in-Some : goal.variable_within-returns-in_ok-transformation-in-Some
 variable_within-returns-in_ok-transformation-in-Some t c =
-    let found = subst (λ n. Follows (from_some (named n transformation_names) 9 c.args.at accepted) c.untransformed.new.self c.in_ok-transformation-in-Some.transformation c.transformation.new.self) c.bytes.ensures c.in_ok-transformation-in-Some.ensures in
+    let found = subst (λ n. Follows (from_some (named n transformation_names) UnknownVariable c.args.at accepted) c.untransformed.new.self c.in_ok-transformation-in-Some.transformation c.transformation.new.self) c.bytes.ensures c.in_ok-transformation-in-Some.ensures in
     transformed_by c.args.known.now _ c.args.at c.args.v.now c.in-Some.name _ _ _ _ _ c.transformed.result c.in-Some.is c.in_ok-part.ensures found c.transformed.ensures

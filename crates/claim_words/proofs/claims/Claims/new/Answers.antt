@@ -14,4 +14,4 @@ returns-clause-openers c k p is =
     new_opener _ _ c.args.workers c.args.slots k p.seat p.slot p.last (search rules) (omega arith) (c.deal_openers.ensures.openers k p is)
 
 pub returns-clause-passes : goal.returns-clause-passes
-returns-clause-passes c i p is = new_pass _ i p.seat p.number (c.deal_passes.ensures.passes i p is)
+returns-clause-passes c i p is = new_pass _ i p.seat p.number (c.deal_claim_passes.ensures.passes i p is)

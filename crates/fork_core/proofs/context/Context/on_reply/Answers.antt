@@ -1,14 +1,6 @@
-use Rattle.std.proofs.Common.{◌≡◌, ℕ, ◌<◌, sym, subst}
-use Rattle.fork_core.specs.declared.context.Mark.TheVariants.{Open}
-use Rattle.fork_core.specs.Stands.{mark_of}
-use Rattle.fork_core.proofs.Standing.{open_of_none}
+use Rattle.fork_core.proofs.GoingOn.{one_forwarding}
 use Rattle.fork_core.proofs.context.Context.on_reply.Goals as goal
 
-pub returns-in_default-4-clause-kept : goal.returns-in_default-4-clause-kept
-returns-in_default-4-clause-kept c = λ h s. (
-  (λ e. absurd (cc)),
-  λ w.
-      let C : ℕ → Type 0 = λ k. mark_of c.args.self.now k ≡ Open in
-      let none : C c.args.b = open_of_none c.args.self.now h s c.args.b (subst (λ l. c.args.b < l) s.count c.requires) w.1 in
-      let t = c.is_open-open.ensures.1 (subst C (sym c.from.ensures) none) in absurd (cc),
-)
+pub returns-clause-value : goal.returns-clause-value
+returns-clause-value c = λ h s.
+    one_forwarding h c.args.b c.args.code c.args.answered c.forwarding-forwarding.result (c.forwarding-forwarding.ensures.now h s) (c.forwarding-forwarding.ensures.kept h s)

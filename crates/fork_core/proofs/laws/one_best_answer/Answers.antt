@@ -1,5 +1,0 @@
-use Rattle.fork_core.proofs.Best.{one_best}
-use Rattle.fork_core.proofs.laws.one_best_answer.Goals as goal
-
-pub returns : goal.returns
-returns c = one_best

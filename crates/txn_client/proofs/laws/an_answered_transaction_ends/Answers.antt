@@ -1,5 +1,0 @@
-use Rattle.txn_client.proofs.Steps.{ends}
-use Rattle.txn_client.proofs.laws.an_answered_transaction_ends.Goals as goal
-
-pub returns : goal.returns
-returns c = ends

@@ -1,5 +1,0 @@
-use Rattle.txn_server.proofs.Steps.{timers}
-use Rattle.txn_server.proofs.laws.timers_of_each_state.Goals as goal
-
-pub returns : goal.returns
-returns c = timers
