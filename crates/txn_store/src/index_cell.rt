@@ -1,8 +1,8 @@
 //! The index, which workers share: the one cell of its table. Each call is one turn of it.
-ghost use Rattle.std.specs.Prelude.{◌≡◌, ◌<◌};
+ghost use Rattle.std.specs.Prelude.{◌≡◌, ◌<◌, IfOk};
 ghost use Rattle.server_key.specs.Keys.{shown_key};
-ghost use Rattle.turn_table.specs.Tables.{IsPassOf, fixed_of, cells_of};
-ghost use Rattle.turn_table.specs.Passes.{HoldsNone};
+ghost use Rattle.turn_table.specs.Tables.{IsPassOf, id_of, fixed_of, cells_of};
+ghost use Rattle.turn_table.specs.Passes.{HoldsNone, AreNewPasses};
 ghost use Rattle.turn_table.specs.Objects.{DidInTurn};
 ghost use Rattle.txn_store.specs.Places.{vacant_places};
 ghost use Rattle.txn_store.specs.Records.{IndexStep};
@@ -13,7 +13,7 @@ use crate::index::{Index, IndexEnd};
 use crate::record::IndexRecord;
 use histories::{Same, Telling};
 use server_key::KeyView;
-use std::alloc::AllocError as NoMemory;
+use std::alloc::{AllocError as NoMemory, Global};
 use std::snapshot::Snapshot;
 use std::sync::Wait;
 use turn_table::{Pass, TurnCell, Turns};
@@ -45,6 +45,21 @@ impl<'a> Telling<Asked<'a, Result<IndexEnd, NoMemory>>, IndexRecord> for IsAsked
 
 impl<'a> Telling<Asked<'a, Option<(u32, u64)>>, IndexRecord> for IsAsked {
     ghost told = { λ asked r. r ≡ recorded.Find (shown_key asked.key.value) asked.answer };
+}
+
+/// An index of this many slots, which hold no key, and a pass for each number below `workers`.
+pub fn share_index(
+    alloc: Global,
+    slots: u32,
+    workers: u32,
+) -> Result<(Turns<Index>, Vec<Pass<Index>>), NoMemory>
+    requires { 0 < workers }
+    ensures cell { IfOk result (λ r. (cells_of r.0 ≡ 1) × (fixed_of r.0 ≡ slots)) }
+    ensures passes { IfOk result (λ r. AreNewPasses (id_of r.0) slots workers r.1.items) }
+{
+    let mut cells = Vec::with_capacity(alloc, 1)?;
+    cells.push_reserved(Index::new(alloc, slots)?);
+    Turns::new(alloc, cells, workers, &slots)
 }
 
 /// `Index::claim` of the shared index. It waits while another worker has the index.

@@ -17,12 +17,12 @@ mod slot_cell;
 mod wheel_cell;
 
 pub use index::{Index, IndexEnd, IndexPlace};
-pub use index_cell::{claim_key, find_key, free_slot};
-pub use pool_cell::{PoolCell, free_blocks, give_block, take_block};
+pub use index_cell::{claim_key, find_key, free_slot, share_index};
+pub use pool_cell::{PoolCell, free_blocks, give_block, share_pool, take_block};
 pub use record::IndexRecord;
 pub use server_key::{Key, KeyView};
 pub use slot_cell::{SlotCell, SlotValue};
-pub use wheel_cell::{WheelCell, clear_timer, next_due, pop_due, set_timer};
+pub use wheel_cell::{WheelCell, clear_timer, next_due, pop_due, set_timer, share_wheel};
 
 #[cfg(test)]
 mod tests;

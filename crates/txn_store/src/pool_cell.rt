@@ -1,14 +1,15 @@
 //! The pool of message blocks, which workers share: the one cell of its table. Each call is one turn of it.
-ghost use Rattle.std.specs.Prelude.{◌≡◌, ◌<◌, IfSome, is_some};
+ghost use Rattle.std.specs.Prelude.{◌≡◌, ◌<◌, IfOk, IfSome, is_some};
 ghost use Rattle.buf_pool.specs.Records.{PoolStep};
 ghost use Rattle.buf_pool.specs.declared.record.PoolRecord.TheVariants as recorded;
-ghost use Rattle.turn_table.specs.Tables.{IsPassOf, fixed_of, cells_of};
-ghost use Rattle.turn_table.specs.Passes.{HoldsNone};
+ghost use Rattle.turn_table.specs.Tables.{IsPassOf, id_of, fixed_of, cells_of};
+ghost use Rattle.turn_table.specs.Passes.{HoldsNone, AreNewPasses};
 ghost use Rattle.turn_table.specs.Objects.{DidInTurn};
 ghost use Rattle.txn_store.specs.Cells.{PoolStands};
 
 use buf_pool::{Block, Pool, PoolRecord};
 use histories::Same;
+use std::alloc::{AllocError as NoMemory, Global};
 use std::snapshot::Snapshot;
 use std::sync::Wait;
 use turn_table::{Pass, TurnCell, Turns};
@@ -28,6 +29,24 @@ impl TurnCell for PoolCell {
     type Fixed = Snapshot<Pool>;
 
     ghost stands = { PoolStands };
+}
+
+/// A pool of this many blocks, all of them free, and a pass for each number below `workers`.
+pub fn share_pool(
+    alloc: Global,
+    blocks: u32,
+    workers: u32,
+) -> Result<(Turns<PoolCell>, Vec<Pass<PoolCell>>), NoMemory>
+    requires { 0 < workers }
+    ensures cell { IfOk result (λ r. cells_of r.0 ≡ 1) }
+    ensures pool { IfOk result (λ r. ((fixed_of r.0).value.free ≡ blocks) × ((fixed_of r.0).value.out ≡ 0)) }
+    ensures passes { IfOk result (λ r. AreNewPasses (id_of r.0) (fixed_of r.0) workers r.1.items) }
+{
+    let mut cells = Vec::with_capacity(alloc, 1)?;
+    let pool = Pool::new(alloc, blocks)?;
+    let first = Snapshot::of(&pool);
+    cells.push_reserved(PoolCell { pool });
+    Turns::new(alloc, cells, workers, &first)
 }
 
 /// `Pool::take` of the shared pool. It waits while another worker has the pool.

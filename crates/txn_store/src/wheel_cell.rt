@@ -1,13 +1,14 @@
 //! The wheel of timers, which workers share: the one cell of its table. Each call is one turn of it.
-ghost use Rattle.std.specs.Prelude.{◌≡◌, ◌<◌, IfSome};
+ghost use Rattle.std.specs.Prelude.{◌≡◌, ◌<◌, IfOk, IfSome};
 ghost use Rattle.timer_wheel.specs.Records.{WheelStep};
 ghost use Rattle.timer_wheel.specs.declared.record.WheelRecord.TheVariants as recorded;
-ghost use Rattle.turn_table.specs.Tables.{IsPassOf, fixed_of, cells_of};
-ghost use Rattle.turn_table.specs.Passes.{HoldsNone};
+ghost use Rattle.turn_table.specs.Tables.{IsPassOf, id_of, fixed_of, cells_of};
+ghost use Rattle.turn_table.specs.Passes.{HoldsNone, AreNewPasses};
 ghost use Rattle.turn_table.specs.Objects.{DidInTurn};
 ghost use Rattle.txn_store.specs.Cells.{WheelStands, idle_wheel};
 
 use histories::Same;
+use std::alloc::{AllocError as NoMemory, Global};
 use std::sync::Wait;
 use timer_wheel::{Timer, Wheel, WheelRecord};
 use turn_table::{Pass, TurnCell, Turns};
@@ -27,6 +28,22 @@ impl TurnCell for WheelCell {
     type Fixed = u32;
 
     ghost stands = { WheelStands };
+}
+
+/// A wheel of this many slots, in which no timer is set, and a pass for each number below `workers`.
+pub fn share_wheel(
+    alloc: Global,
+    slots: u32,
+    workers: u32,
+) -> Result<(Turns<WheelCell>, Vec<Pass<WheelCell>>), NoMemory>
+    requires { 0 < workers }
+    ensures cell { IfOk result (λ r. (cells_of r.0 ≡ 1) × (fixed_of r.0 ≡ slots)) }
+    ensures passes { IfOk result (λ r. AreNewPasses (id_of r.0) slots workers r.1.items) }
+{
+    let mut cells = Vec::with_capacity(alloc, 1)?;
+    let wheel = Wheel::new(alloc, slots)?;
+    cells.push_reserved(WheelCell { wheel });
+    Turns::new(alloc, cells, workers, &slots)
 }
 
 /// `Wheel::set` of the shared wheel. It waits while another worker has the wheel.

@@ -1,6 +1,6 @@
-use Rattle.std.proofs.Common.{◌≡◌, ℕ, length, replicate, refl, sym, ap, ◌∙◌, subst, arith}
+use Rattle.std.proofs.Common.{◌≡◌, sym, ap, ◌∙◌}
 use Rattle.server_key.specs.Keys.{shown_key}
-use Rattle.txn_store.specs.declared.record.IndexRecord.TheVariants.{Claim, Find, Free}
+use Rattle.txn_store.specs.declared.record.IndexRecord.TheVariants.{Find}
 use Rattle.txn_store.specs.Places.{vacant_places}
 use Rattle.txn_store.specs.Records.{IndexStep}
 use Rattle.txn_store.specs.Cells.{IndexStands}

@@ -1,6 +1,5 @@
-use Rattle.std.proofs.Common.{◌≡◌, ℕ, length, replicate, refl, sym, ap, ◌∙◌, subst, arith}
-use Rattle.server_key.specs.Keys.{shown_key}
-use Rattle.txn_store.specs.declared.record.IndexRecord.TheVariants.{Claim, Find, Free}
+use Rattle.std.proofs.Common.{◌≡◌, refl, arith}
+use Rattle.txn_store.specs.declared.record.IndexRecord.TheVariants.{Free}
 use Rattle.txn_store.specs.Places.{vacant_places}
 use Rattle.txn_store.specs.Records.{IndexStep}
 use Rattle.txn_store.specs.Cells.{IndexStands}

@@ -1,5 +1,5 @@
-use Rattle.std.proofs.Common.{◌≡◌, ℕ, length, replicate, refl, sym, ap, ◌∙◌, subst, arith}
-use Rattle.buf_pool.specs.declared.record.PoolRecord.TheVariants.{Take, Give, Free}
+use Rattle.std.proofs.Common.{◌≡◌, refl, sym, ◌∙◌}
+use Rattle.buf_pool.specs.declared.record.PoolRecord.TheVariants.{Give}
 use Rattle.buf_pool.specs.Records.{PoolStep}
 use Rattle.txn_store.specs.Cells.{PoolStands}
 use Rattle.buf_pool.specs.declared.record.PoolRecord.{PoolRecord}

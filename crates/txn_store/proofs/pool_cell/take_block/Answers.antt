@@ -1,5 +1,5 @@
-use Rattle.std.proofs.Common.{◌≡◌, ℕ, length, replicate, refl, sym, ap, ◌∙◌, subst, arith}
-use Rattle.buf_pool.specs.declared.record.PoolRecord.TheVariants.{Take, Give, Free}
+use Rattle.std.proofs.Common.{◌≡◌, sym, ap, ◌∙◌}
+use Rattle.buf_pool.specs.declared.record.PoolRecord.TheVariants.{Take}
 use Rattle.std.specs.Option.{is_some}
 use Rattle.buf_pool.specs.Records.{PoolStep}
 use Rattle.txn_store.specs.Cells.{PoolStands}

@@ -1,5 +1,5 @@
-use Rattle.std.proofs.Common.{◌≡◌, ◌<◌, ℕ, length, replicate, refl, sym, ap, ◌∙◌, subst, arith}
-use Rattle.timer_wheel.specs.declared.record.WheelRecord.TheVariants.{Set, Clear, Pop, Next}
+use Rattle.std.proofs.Common.{◌≡◌, ◌<◌, ℕ, refl, subst}
+use Rattle.timer_wheel.specs.declared.record.WheelRecord.TheVariants.{Pop}
 use Rattle.timer_wheel.specs.Records.{WheelStep}
 use Rattle.txn_store.specs.Cells.{WheelStands, idle_wheel}
 use Rattle.timer_wheel.specs.declared.record.WheelRecord.{WheelRecord}
