@@ -25,4 +25,6 @@ pub use slot_cell::{SlotCell, SlotValue};
 pub use wheel_cell::{WheelCell, clear_timer, next_due, pop_due, set_timer, share_wheel};
 
 #[cfg(test)]
+mod shared_tests;
+#[cfg(test)]
 mod tests;

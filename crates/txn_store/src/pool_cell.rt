@@ -68,12 +68,7 @@ pub fn take_block<R: Wait>(
 }
 
 /// `Pool::give` of the shared pool. It waits while another worker has the pool.
-pub fn give_block<R: Wait>(
-    rt: &R,
-    pool: &Turns<PoolCell>,
-    pass: &mut Pass<PoolCell>,
-    block: Block,
-)
+pub fn give_block<R: Wait>(rt: &R, pool: &Turns<PoolCell>, pass: &mut Pass<PoolCell>, block: Block)
     requires own { IsPassOf pool.now pass.old × HoldsNone pass.old }
     requires cell { 0 < cells_of pool.now }
     requires block { block.pool ≡ (fixed_of pool.now).value.name }
@@ -85,11 +80,7 @@ pub fn give_block<R: Wait>(
 }
 
 /// `Pool::free` of the shared pool. It waits while another worker has the pool.
-pub fn free_blocks<R: Wait>(
-    rt: &R,
-    pool: &Turns<PoolCell>,
-    pass: &mut Pass<PoolCell>,
-) -> u32
+pub fn free_blocks<R: Wait>(rt: &R, pool: &Turns<PoolCell>, pass: &mut Pass<PoolCell>) -> u32
     requires own { IsPassOf pool.now pass.old × HoldsNone pass.old }
     requires cell { 0 < cells_of pool.now }
     ensures { DidInTurn PoolStep (fixed_of pool.now).value 0 (recorded.Free result) pass.old pass.new }

@@ -65,12 +65,7 @@ pub fn set_timer<R: Wait>(
 }
 
 /// `Wheel::clear` of the shared wheel. It waits while another worker has the wheel.
-pub fn clear_timer<R: Wait>(
-    rt: &R,
-    wheel: &Turns<WheelCell>,
-    pass: &mut Pass<WheelCell>,
-    slot: u32,
-)
+pub fn clear_timer<R: Wait>(rt: &R, wheel: &Turns<WheelCell>, pass: &mut Pass<WheelCell>, slot: u32)
     requires own { IsPassOf wheel.now pass.old × HoldsNone pass.old }
     requires cell { 0 < cells_of wheel.now }
     requires slot { slot < fixed_of wheel.now }
