@@ -1,10 +1,10 @@
 //! Claims call by call on one thread, and on several at once.
-ghost use Rattle.std.specs.Prelude.{◌≡◌, ◌<◌, IfOk, length};
-ghost use Rattle.claim_words.specs.Owned.{slots_of, IsOpenerOf, IsClaimPassOf};
+ghost use Rattle.std.specs.Prelude.{◌≡◌, ◌<◌, [], IfOk, length};
+ghost use Rattle.claim_words.specs.Owned.{slots_of, workers_of, pass_clerk, IsOpenerOf, IsClaimPassOf, IsNewOpener, IsNewPass};
 
 use crate::By::{Cancelled, Continued, TimedOut};
 use crate::ClaimEnd::{Lost, Past, Unknown, Won};
-use crate::{By, ClaimEnd, ClaimPass, Claims, Opener, PlainClaims};
+use crate::{By, ClaimEnd, ClaimPass, Claims, ClosedClaims, Opener, PlainClaims};
 use std::alloc::{AllocError, Global};
 use std::process::Abort;
 use std::sync::Wait;
@@ -61,9 +61,9 @@ fn one_thread_opens_and_claims(rt: HostRuntime) -> Result<(), Fail> {
 
 // Claims of one slot for two workers.
 fn made(alloc: Global) -> Result<(Claims, Opener, ClaimPass, ClaimPass), AllocError>
-    ensures slots { IfOk result (λ r. slots_of r.0 ≡ 1) }
-    ensures opener { IfOk result (λ r. IsOpenerOf r.0 r.1 × (r.1.slot ≡ 0) × (r.1.last ≡ 0)) }
-    ensures passes { IfOk result (λ r. IsClaimPassOf r.0 r.2 × IsClaimPassOf r.0 r.3) }
+    ensures counts { IfOk result (λ r. (slots_of r.0 ≡ 1) × (workers_of r.0 ≡ 2)) }
+    ensures opener { IfOk result (λ r. IsNewOpener r.0 0 r.1) }
+    ensures passes { IfOk result (λ r. IsNewPass r.0 0 r.2 × IsNewPass r.0 1 r.3) }
 {
     let (claims, mut openers, mut passes) = Claims::new(alloc, 1, 2)?;
     let opener = openers.remove(0);
@@ -132,5 +132,49 @@ fn one_of_two_threads_wins(rt: HostRuntime) -> Result<(), Fail> {
         let second = a == Lost(TimedOut) && b == Won(0);
         assert!(rt; first != second);
     }
+    Ok(())
+}
+
+// Ends the claims of one slot for two workers.
+fn end(
+    alloc: Global,
+    claims: Claims,
+    opener: Opener,
+    one: ClaimPass,
+    two: ClaimPass,
+) -> Result<(), AllocError>
+    requires counts { (slots_of claims ≡ 1) × (workers_of claims ≡ 2) }
+    requires opener { IsOpenerOf claims opener × (opener.slot ≡ 0) }
+    requires one { IsClaimPassOf claims one × (one.number ≡ 0) × ((pass_clerk one).got ≡ []) }
+    requires two { IsClaimPassOf claims two × (two.number ≡ 1) }
+{
+    let mut passes = Vec::with_capacity(alloc, 2)?;
+    passes.push_reserved(one);
+    passes.push_reserved(two);
+    let mut openers = Vec::with_capacity(alloc, 1)?;
+    openers.push_reserved(opener);
+    let ClosedClaims { last: _ } = claims.close(passes, openers);
+    Ok(())
+}
+
+// What a note of a claim that was won tells, and the Opener's latest serial once it took the note in.
+fn noted(alloc: Global) -> Result<Option<(u32, u64, u64)>, AllocError> {
+    let (claims, mut opener, mut one, two) = made(alloc)?;
+    let serial = claims.open(&mut opener, 0);
+    let Won(_) = claims.claim(&mut one, 0, serial, Continued) else {
+        return Ok(None);
+    };
+    let note = claims.note(&mut one, 0, serial);
+    let told = (note.slot(), note.serial());
+    claims.meet(&mut opener, note);
+    let last = opener.last();
+    let slot = opener.slot();
+    end(alloc, claims, opener, one, two)?;
+    Ok((slot == told.0).then_some((told.0, told.1, last)))
+}
+
+#[test]
+fn a_note_of_a_won_claim_is_met(rt: HostRuntime) -> Result<(), Fail> {
+    assert_eq!(rt; noted(rt.alloc())?, Some((0, 1, 1)));
     Ok(())
 }

@@ -11,7 +11,7 @@ use Rattle.txn_store.specs.declared.index.IndexPlace.{IndexPlace}
 use Rattle.txn_store.specs.declared.index.IndexEnd.TheVariants.{Old, New, Full}
 use Rattle.txn_store.specs.declared.record.IndexRecord.{IndexRecord}
 use Rattle.txn_store.specs.declared.record.IndexRecord.TheVariants.{Claim, Find, Free}
-use Rattle.txn_store.specs.Places.{Places, HoldsKey, IsHeldNowhere, EachKeyIsOnce, freed, after_free}
+use Rattle.txn_store.specs.Places.{Places, HoldsKey, IsHeldNowhere, EachKeyIsOnce, freed}
 use Rattle.txn_store.specs.Records.{IndexStep}
 
 length_freed : (s : Places) (slot : ℕ) (o : Option IndexPlace) → length (option_map_or (λ (p : IndexPlace). set s slot (freed p)) o s) ≡ length s

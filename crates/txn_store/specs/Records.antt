@@ -1,6 +1,5 @@
 -- What each call of an index answers and leaves: the index as a relation between its places, a record and its places after it.
-use Rattle.std.specs.Prelude.{◌≡◌, ℕ, ◌<◌, Some, None, Ok, Err, length}
-use Rattle.server_key.specs.declared.key.Key.{Key}
+use Rattle.std.specs.Prelude.{◌≡◌, ◌<◌, Some, None, Ok, Err, length}
 use Rattle.txn_store.specs.declared.record.IndexRecord.{IndexRecord}
 use Rattle.txn_store.specs.declared.record.IndexRecord.TheVariants.{Claim, Find, Free}
 use Rattle.txn_store.specs.Places.{Places, HoldsKey, IsHeldNowhere, SomeIsFree, ClaimAnswers, after_claim, after_free}

@@ -4,6 +4,7 @@ use server_key::Key;
 use std::alloc::AllocError as NoMemory;
 
 /// One call of an index with its answer. A history is a list of these. Contracts speak of them, and no value need be made.
+#[derive(Drop)]
 pub enum IndexRecord {
     /// The slot of the key was asked for, which a new key gets.
     Claim {

@@ -12,21 +12,21 @@ enum Call {
     Free(u32),
 }
 
-const FIRST: KeyView<'static> = KeyView {
+pub(crate) const FIRST: KeyView<'static> = KeyView {
     branch: b"z9hG4bK776asdhds",
     host: b"Pc33.Atlanta.COM",
     port: 5060,
     method: b"INVITE",
 };
 
-const LOWER_HOST: KeyView<'static> = KeyView {
+pub(crate) const LOWER_HOST: KeyView<'static> = KeyView {
     branch: b"z9hG4bK776asdhds",
     host: b"pc33.atlanta.com",
     port: 5060,
     method: b"INVITE",
 };
 
-const OTHER_METHOD: KeyView<'static> = KeyView {
+pub(crate) const OTHER_METHOD: KeyView<'static> = KeyView {
     branch: b"z9hG4bK776asdhds",
     host: b"Pc33.Atlanta.COM",
     port: 5060,
@@ -47,11 +47,11 @@ const OTHER_BRANCH: KeyView<'static> = KeyView {
     method: b"INVITE",
 };
 
-fn new(slot: u32, generation: u64) -> IndexEnd {
+pub(crate) fn new(slot: u32, generation: u64) -> IndexEnd {
     New { slot, generation }
 }
 
-fn old(slot: u32, generation: u64) -> IndexEnd {
+pub(crate) fn old(slot: u32, generation: u64) -> IndexEnd {
     Old { slot, generation }
 }
 

@@ -1,0 +1,25 @@
+use Rattle.std.proofs.Common.{◌≡◌, refl}
+use Rattle.timer_wheel.specs.declared.record.WheelRecord.TheVariants.{Next}
+use Rattle.timer_wheel.specs.Records.{WheelStep}
+use Rattle.txn_store.specs.Cells.{WheelStands, idle_wheel}
+use Rattle.timer_wheel.specs.declared.record.WheelRecord.{WheelRecord}
+use Rattle.turn_table.specs.Tables.{fixed_of}
+use Rattle.turn_table.specs.Passes.{history_of}
+use Rattle.turn_table.proofs.Objects.{did_in_turn, runs_told}
+use Rattle.txn_store.proofs.wheel_cell.next_due.Goals as goal
+
+pub give_told-requires-clause-stands : goal.give_told-requires-clause-stands
+give_told-requires-clause-stands g c κs =
+    let t = c.take-turn.ensures.took in
+    let x : WheelRecord = Next c.next_due-due.result in (
+      x,
+      refl,
+      runs_told WheelStep (idle_wheel (fixed_of c.args.wheel.now)) c.take-turn.result.value.wheel c.take-turn.result.value.wheel c.take-turn.result.cell 0 x (history_of c.take-turn.new.pass) t.cell t.right c.next_due-due.ensures.step,
+    )
+
+pub returns : goal.returns
+returns g c =
+    let t = c.take-turn.ensures.took in
+    let x : WheelRecord = Next c.next_due-due.result in
+    did_in_turn WheelStands WheelStep (idle_wheel (fixed_of c.args.wheel.now)) c.take-turn.result.value.wheel c.take-turn.result.value.wheel (fixed_of c.args.wheel.now) 0 c.args.pass.now c.take-turn.new.pass c.give_told.new.pass c.take-turn.result
+    (λ (y : WheelRecord). y ≡ Next c.next_due-due.result) x (λ y is. is) c.take-turn.ensures.same t c.give_told.ensures.same c.give_told.ensures.gave t.right c.next_due-due.ensures.step
