@@ -1,3 +1,0 @@
-pub mod Handling
-pub mod Solo
-pub mod Turns
