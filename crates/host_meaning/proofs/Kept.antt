@@ -15,12 +15,13 @@ use Rattle.pv_values.specs.Values.{number_of}
 use Rattle.pv_values.specs.Kinds.{is_written_in, stands_in, name_of}
 use Rattle.sip_scan.specs.declared.field.HeaderSpan.{HeaderSpan}
 use Rattle.sip_build.specs.Reply.{reply_text}
+use Rattle.msg_edits.specs.declared.parts.Edit.TheVariants.{Insert}
 use Rattle.pv_table.specs.declared.facts.Facts.{Facts}
 use Rattle.pv_table.specs.Writing.{written, assigned}
 use Rattle.host_meaning.specs.Run.{Received, Around, RunState, kept, Tells, Lacks, RowCourse, code, argument, is_readable}
-use Rattle.host_meaning.specs.Responses.{sl_send_reply, is_ack, is_undecided}
-use Rattle.host_meaning.specs.Headers.{yes_or_no, is_method, has_totag, is_present_hf, fields_removed, remove_hf, left_named, append_hf, is_header_text, has_room, fits_reply, before_empty_line, hops_code, mf_process_maxfwd_header, record_route}
-use Rattle.host_meaning.specs.Routing.{loose_route, again, first_call, gone, Way, way, way_edits, route_fields}
+use Rattle.host_meaning.specs.Responses.{sl_send_reply, refuses_reply}
+use Rattle.host_meaning.specs.Headers.{yes_or_no, is_method, has_totag, is_present_hf, fields_removed, remove_hf, left_named, append_hf, is_header_text, fits, all_fit, field_cuts, fits_reply, before_empty_line, hops_code, mf_process_maxfwd_header, record_route, record_route_place, record_route_line}
+use Rattle.host_meaning.specs.Routing.{loose_route, again, first_call, gone, Way, way, way_edits, route_fields, route_values}
 use Rattle.host_meaning.specs.TableRows.{limit_written}
 use Rattle.host_meaning.specs.Rows.{row, has_started, read_row, write_row, call_row, called, call_over, call_without}
 
@@ -38,7 +39,7 @@ answers_keep s t false e = e
 
 sl_send_reply_keeps : (r : Received) (status : ℕ) (reason : List ℕ) (s : RunState) → Keeps s (sl_send_reply r status reason s)
 sl_send_reply_keeps r status reason s =
-    elim (cases_Bool (is_ack r || s.facts.standing.exists || not (is_undecided s.facts.outcome))) [
+    elim (cases_Bool (refuses_reply r s.facts)) [
       | inl t ↦ rw t refl
       | inr f ↦ rw f (elim (cases_Bool (not (is_readable (reply_text r.bytes r.message s.facts.source status reason)))) [ inl t' ↦ rw t' refl | inr f' ↦ rw f' refl ])
     ]
@@ -47,7 +48,7 @@ removed_keep : (fields : List HeaderSpan) (s : RunState) → Keeps s (fields_rem
 removed_keep fields s =
     elim (cases_Bool (length fields == 0)) [
       | inl t ↦ rw t refl
-      | inr f ↦ rw f (elim (cases_Bool (not (has_room s (length fields)))) [ inl t' ↦ rw t' refl | inr f' ↦ rw f' refl ])
+      | inr f ↦ rw f (elim (cases_Bool (not (all_fit s.facts.edits (field_cuts fields)))) [ inl t' ↦ rw t' refl | inr f' ↦ rw f' refl ])
     ]
 
 remove_hf_keeps : (r : Received) (name : List ℕ) (s : RunState) → Keeps s (remove_hf r name s)
@@ -57,7 +58,7 @@ append_hf_keeps : (r : Received) (text : List ℕ) (s : RunState) → Keeps s (a
 append_hf_keeps r text s =
     elim (cases_Bool (not (is_header_text text))) [
       | inl t ↦ rw t refl
-      | inr f ↦ rw f (elim (cases_Bool (not (has_room s 1))) [
+      | inr f ↦ rw f (elim (cases_Bool (not (fits s.facts.edits (before_empty_line r.message text)))) [
         | inl t' ↦ rw t' refl
         | inr f' ↦ rw f' (elim (cases_Bool (not (fits_reply s.facts.kind r (s.facts.edits ++ before_empty_line r.message text ∷ [])))) [ inl u ↦ rw u refl | inr v ↦ rw v refl ])
       ])
@@ -71,15 +72,15 @@ record_route_keeps : (a : Around) (r : Received) (s : RunState) → Keeps s (rec
 record_route_keeps a r s =
     elim (cases_Bool (s.facts.has_record_route)) [
       | inl t ↦ rw t refl
-      | inr f ↦ rw f (elim (cases_Bool (not (has_room s 1))) [ inl t' ↦ rw t' refl | inr f' ↦ rw f' refl ])
+      | inr f ↦ rw f (elim (cases_Bool (not (fits s.facts.edits (Insert (record_route_place r.message.head.fields.items) (record_route_line a.settings.listen))))) [ inl t' ↦ rw t' refl | inr f' ↦ rw f' refl ])
     ]
 
 gone_keeps : (r : Received) (s : RunState) (w : Way) → Keeps s (gone r s w)
-gone_keeps r s w = elim (cases_Bool (not (has_room s (length (way_edits r w))))) [ inl t ↦ rw t refl | inr f ↦ rw f refl ]
+gone_keeps r s w = elim (cases_Bool (not (all_fit s.facts.edits (way_edits r w)))) [ inl t ↦ rw t refl | inr f ↦ rw f refl ]
 
 first_keeps : (a : Around) (r : Received) (s : RunState) → Keeps s (first_call a r s)
 first_keeps a r s =
-    elim (cases_Bool (length (route_fields r) == 0)) [ inl t ↦ rw t refl | inr f ↦ rw f (gone_keeps r s (way a r s.facts.uri s.facts.destination)) ]
+    elim (cases_Bool (length (route_fields r) == 0)) [ inl t ↦ rw t refl | inr f ↦ rw f (gone_keeps r s (way a r.bytes (route_values r) s.facts.uri s.facts.destination)) ]
 
 again_keeps : (o : Option ℤ) (s : RunState) (now : RowCourse) → Keeps s now → Keeps s (again o now s)
 again_keeps None s now p = p

@@ -1,5 +1,5 @@
 -- Functions that look at a message's method, tags and header fields, and that edit its fields.
-use Rattle.std.specs.Prelude.{ℕ, ◌+◌, ◌-◌, ◌==◌, pos, negsuc, Bool, true, false, not, ◌&&◌, List, [], ◌∷◌, ◌++◌, length, map, Option, Some, None, is_some, nat_le, nat_lt, if◌then◌else◌, codes}
+use Rattle.std.specs.Prelude.{ℕ, ◌+◌, ◌-◌, ◌==◌, pos, negsuc, Bool, true, false, not, ◌&&◌, List, [], ◌∷◌, ◌++◌, length, map, Option, Some, None, is_some, max, min, nat_lt, if◌then◌else◌, codes}
 use Rattle.std.specs.List.{find, filter, list_any, last_or}
 use Rattle.std.specs.Str.{bytes_eq}
 use Rattle.numerals.specs.Numerals.{socket}
@@ -27,9 +27,24 @@ most_edits = 64
 abbrev pub with_edits : RunState → List Edit → RunState
 with_edits s more = with_facts s (record s.facts { edits = s.facts.edits ++ more })
 
--- whether so many more edits fit
-abbrev pub has_room : RunState → ℕ → Bool
-has_room s n = nat_le (length s.facts.edits + n) most_edits
+-- the two spans share a byte
+abbrev pub shares_byte : Span → Span → Bool
+shares_byte a b = nat_lt (max a.from b.from) (min a.to b.to)
+
+-- the edit is a cut that shares a byte with this span
+abbrev pub meets : Span → Edit → Bool
+meets at (Cut earlier) = shares_byte earlier at
+meets at (Insert place text) = false
+
+-- one more edit fits where there are fewer than 64, and where no earlier cut shares a byte with it
+abbrev pub fits : List Edit → Edit → Bool
+fits edits (Cut at) = nat_lt (length edits) most_edits && not (list_any (meets at) edits)
+fits edits (Insert place text) = nat_lt (length edits) most_edits
+
+-- more edits fit where each of them does, one after another
+abbrev pub all_fit : List Edit → List Edit → Bool
+all_fit edits [] = true
+all_fit edits (e ∷ more) = fits edits e && all_fit (edits ++ e ∷ []) more
 
 -- 1 or -1
 abbrev pub yes_or_no : Bool → RunState → RowCourse
@@ -62,17 +77,23 @@ abbrev pub is_cut_at : Span → Edit → Bool
 is_cut_at at (Cut span) = (span.from == at.from) && (span.to == at.to)
 is_cut_at at (Insert place text) = false
 
--- the fields of this name that aren't cut yet
+-- the field has this name and isn't cut yet
+abbrev pub is_left : List ℕ → List ℕ → List Edit → HeaderSpan → Bool
+is_left b name edits f = is_field_named b name f && not (list_any (is_cut_at f.whole) edits)
+
 abbrev pub left_named : Received → List ℕ → List Edit → List HeaderSpan
-left_named r name edits =
-    filter (λ f. is_field_named r.bytes name f && not (list_any (is_cut_at f.whole) edits)) r.message.head.fields.items
+left_named r name edits = filter (is_left r.bytes name edits) r.message.head.fields.items
+
+-- the cuts of whole fields
+abbrev pub field_cuts : List HeaderSpan → List Edit
+field_cuts fields = map (λ f. Cut f.whole) fields
 
 -- -1 without such a field; -2 where their cuts don't all fit
 abbrev pub fields_removed : List HeaderSpan → RunState → RowCourse
 fields_removed fields s =
     if length fields == 0 then code (negsuc 0) s
-    else if not (has_room s (length fields)) then code (negsuc 1) s
-    else code (pos 1) (with_edits s (map (λ f. Cut f.whole) fields))
+    else if not (all_fit s.facts.edits (field_cuts fields)) then code (negsuc 1) s
+    else code (pos 1) (with_edits s (field_cuts fields))
 
 -- remove_hf("name")
 abbrev pub remove_hf : Received → List ℕ → RunState → RowCourse
@@ -103,7 +124,7 @@ abbrev pub append_hf : Received → List ℕ → RunState → RowCourse
 append_hf r text s =
     let edit = before_empty_line r.message text in
     if not (is_header_text text) then code (negsuc 0) s
-    else if not (has_room s 1) then code (negsuc 1) s
+    else if not (fits s.facts.edits edit) then code (negsuc 1) s
     else if not (fits_reply s.facts.kind r (s.facts.edits ++ edit ∷ [])) then code (negsuc 2) s
     else code (pos 1) (with_edits s (edit ∷ []))
 
@@ -135,6 +156,7 @@ record_route_place fields = begin_or (first kind.RecordRoute fields) (end_of_fie
 abbrev pub record_route : Around → Received → RunState → RowCourse
 record_route a r s =
     let marked = with_facts s (record s.facts { has_record_route = true }) in
+    let edit = Insert (record_route_place r.message.head.fields.items) (record_route_line a.settings.listen) in
     if s.facts.has_record_route then code (negsuc 0) s
-    else if not (has_room s 1) then code (negsuc 1) marked
-    else code (pos 1) (with_edits marked (Insert (record_route_place r.message.head.fields.items) (record_route_line a.settings.listen) ∷ []))
+    else if not (fits s.facts.edits edit) then code (negsuc 1) marked
+    else code (pos 1) (with_edits marked (edit ∷ []))

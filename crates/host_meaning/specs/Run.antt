@@ -1,5 +1,5 @@
 -- What a run has, and what a row makes of it.
-use Rattle.std.specs.Prelude.{ℕ, ℤ, Bool, true, false, List, Option, Some, None, is_none}
+use Rattle.std.specs.Prelude.{◌≡◌, ℕ, ℤ, Bool, true, false, List, Option, Some, None, is_none}
 use Rattle.std.specs.Prelude.{slice_index_or}
 use Rattle.dialogue.specs.Course.{Course, Ends, Asks}
 use Rattle.pv_values.specs.declared.run.HostAnswer.{HostAnswer}
@@ -26,6 +26,12 @@ pub record Around : Type 0 where
   pub settings : Settings
   pub received : Option Received
 
+abbrev pub received : List ℕ → Message → Received
+received bytes message = record { bytes = bytes; message = message }
+
+abbrev pub around : Parameters → Settings → Option Received → Around
+around parameters settings received = record { parameters = parameters; settings = settings; received = received }
+
 -- what a run has: its facts, and how many blocks it holds
 pub record RunState : Type 0 where
   pub facts : Facts
@@ -50,6 +56,10 @@ RowCourse = Course Asked Heard RowEnd
 -- a row that ends at once, with a code
 abbrev pub code : ℤ → RunState → RowCourse
 code n s = Ends (Tells (told.Code n) s)
+
+-- a function came to this code and made the new facts of the old ones, whatever blocks the run holds
+abbrev pub ComesTo : (RunState → RowCourse) → Facts → ℤ → Facts → Type 0
+ComesTo f old n new = (blocks : ℕ) → f (record { facts = old; blocks = blocks }) ≡ code n (record { facts = new; blocks = blocks })
 
 -- an expanded argument as a text
 abbrev pub argument : List Val → ℕ → List ℕ

@@ -8,7 +8,9 @@
 
 mod ask;
 pub mod laws;
+mod routing;
 mod settings;
 
 pub use ask::{Asked, Heard, JobOrder};
+pub use routing::RouteValue;
 pub use settings::{HostAddress, Hosts, Settings};

@@ -1,3 +1,3 @@
-mod PartsWithin
+pub mod PartsWithin
 mod Trimming
 mod UriPlaces

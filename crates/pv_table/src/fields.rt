@@ -37,7 +37,7 @@ fn trimmed(text: &[u8]) -> &[u8]
 }
 
 /// Whether the field has this name, in its full or compact form.
-fn is_field_named(b: &[u8], name: &[u8], field: &HeaderSpan) -> bool
+pub fn is_field_named(b: &[u8], name: &[u8], field: &HeaderSpan) -> bool
     requires from { field.now.name.from ≤ field.now.name.to }
     requires to { field.now.name.to ≤ length b.now }
     ensures { result ≡ is_field_named b.now name.now field.now }

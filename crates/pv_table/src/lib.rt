@@ -20,6 +20,8 @@ pub use avps::{Avp, Avps};
 pub use facts::{
     ArmedBlocks, BLOCKS, Facts, FinalTimers, Outcome, Response, RunData, Standing, Target,
 };
+pub use fields::is_field_named;
 pub use pv_values::BlockKind;
 pub use reading::read_pv;
+pub use uri_parts::bytes_at;
 pub use writing::write_pv;

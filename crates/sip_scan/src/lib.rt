@@ -8,7 +8,7 @@
 //!   [`ScanFault`] lists them. [`scan`] answers the head itself, which is 7 KB that are moved.
 //! - [`scan_behind`] is the same for a caller that has the start line already.
 //! - [`start_line`] reads the start line alone, for a caller that judges it before the fields are looked at.
-//! - [`is_crlf`] and [`skipped`] are for whoever walks over the lines of a head by himself.
+//! - [`is_crlf`], [`skipped`] and [`field_at`] are for whoever walks over the lines or the fields of a head by himself.
 //!
 //! Nothing here takes memory.
 #![tactic(auto)]
@@ -27,8 +27,7 @@ mod lines;
 mod tests;
 
 use arrayvec::ArrayVec;
-use field::field_at;
-pub use field::{HeaderSpan, Kind, full_name, kind_of};
+pub use field::{HeaderSpan, Kind, field_at, full_name, kind_of};
 use lines::line_end;
 pub use lines::{is_crlf, skipped, start_line};
 pub use sip_words::Span;
