@@ -18,6 +18,7 @@ use Rattle.txn_client.specs.declared.machine.ClientTimer.{ClientTimer}
 use Rattle.txn_client.specs.declared.machine.ClientEvent.TheVariants as client
 use Rattle.txn_client.specs.After.{client_after}
 use Rattle.txn_server.specs.declared.machine.ServerEvent.TheVariants as server
+use Rattle.txn_server.specs.After.{server_after}
 use Rattle.host_meaning.specs.declared.ask.Asked.TheVariants as ask
 use Rattle.host_meaning.specs.declared.ask.Heard.{Heard}
 use Rattle.host_meaning.specs.declared.ask.Heard.TheVariants as heard
