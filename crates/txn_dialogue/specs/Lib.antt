@@ -12,3 +12,4 @@ pub mod Dialogue
 pub mod Loose
 pub mod Entries
 pub mod Steady
+pub mod Examples

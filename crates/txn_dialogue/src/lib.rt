@@ -9,6 +9,7 @@
 #![tactic(auto)]
 
 mod entry;
+pub mod examples;
 mod happening;
 pub mod laws;
 mod mark;
