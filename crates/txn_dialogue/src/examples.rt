@@ -1,6 +1,6 @@
 //! Examples of steps, found by computation: the whole list of what is asked, of each datagram its start line. Each function states a law,
 //! and does nothing when it is called.
-ghost use Rattle.std.specs.Prelude.{◌≡◌, ◌++◌, Some, None, [], ◌∷◌, codes, true, false};
+ghost use Rattle.std.specs.Prelude.{◌≡◌, Option, Some, None, [], ◌∷◌, codes, true, false};
 ghost use Rattle.claim_words.specs.declared.By.TheVariants.{Continued, TimedOut, Cancelled};
 ghost use Rattle.claim_words.specs.declared.ClaimEnd.TheVariants.{Won, Lost};
 ghost use Rattle.host_meaning.specs.declared.ask.Asked.TheVariants as ask;
@@ -10,9 +10,9 @@ ghost use Rattle.txn_dialogue.specs.declared.happening.SlotTimer.TheVariants.{Br
 ghost use Rattle.txn_dialogue.specs.declared.happening.BranchTimer.TheVariants.{Final, Unsent, Client};
 ghost use Rattle.txn_client.specs.declared.machine.ClientTimer.TheVariants as client_timer;
 ghost use Rattle.txn_server.specs.declared.machine.ServerTimer.TheVariants as server_timer;
-ghost use Rattle.cfg_tree.specs.declared.script.Stmt.TheVariants.{Drop};
+ghost use Rattle.pv_values.specs.declared.run.How.TheVariants.{Drop};
 ghost use Rattle.pv_table.specs.declared.facts.Outcome.TheVariants.{Relayed};
-ghost use Rattle.txn_dialogue.specs.Rounds.{after_failure_by, made, over};
+ghost use Rattle.txn_dialogue.specs.Rounds.{Launch, after_failure_by, all_launched, launched, made, over, unless_drop};
 ghost use Rattle.txn_dialogue.specs.Slots.{SeenVacant, reading};
 ghost use Rattle.txn_dialogue.specs.Dialogue.{dialogue};
 ghost use Rattle.txn_dialogue.specs.Memory.{short};
@@ -135,11 +135,12 @@ pub fn a_success_cancels_the_others()
         ≡ ask.Send caller (codes "SIP/2.0 200 OK") ∷ ask.Send (others 1) (codes "CANCEL sip:c@192.0.2.10 SIP/2.0") ∷ ask.Due (Some 500) ∷ [] }
 {}
 
-/// A branch block that ends by `drop` removes its target, whose blocks go back; a round without a branch counts as 503.
+/// A branch block that ends by `drop` removes its target, whatever it was, and its blocks go back; a round without a branch counts as 503.
 pub fn a_dropped_target_is_removed()
-    ensures { lines_of (begun (example_proxy ([] ∷ (Drop ∷ []) ∷ [])) (λ r s. relays_to [] r (with_blocks (Some 1) None s)) invite
-            (heard.Sent ∷ heard.Sent ∷ heard.Noted ∷ heard.Noted ∷ heard.Noted ∷ [])).asks
-        ≡ ask.Send caller (codes "SIP/2.0 100 Trying") ∷ ask.Send caller (codes "SIP/2.0 500 Server Internal Error") ∷ ask.GiveBack ∷ ask.GiveBack ∷ ask.Due (Some 500) ∷ [] }
+    ensures { (launch : Option Launch) → lines_of (story (SeenVacant 0) (first_does (example_proxy [])
+            (λ w. all_launched (over (example_proxy []) 12) (launched (unless_drop Drop launch) (record w { blocks = 4; exists = true }))) (reading invite))
+            (heard.Sent ∷ heard.Noted ∷ heard.Noted ∷ heard.Noted ∷ [])).asks
+        ≡ ask.Send caller (codes "SIP/2.0 500 Server Internal Error") ∷ ask.GiveBack ∷ ask.GiveBack ∷ ask.Due (Some 500) ∷ [] }
 {}
 
 /// A failure block that decides nothing lets the best response go back; one that relays begins a second round.
