@@ -98,6 +98,7 @@ loose_route_keeps a r s = again_keeps s.facts.loose_route s (first_call a r s) (
 label_of_if : (b : Bool) (f g : Facts) → g.label ≡ f.label → (if b then g else f).label ≡ f.label
 label_of_if true f g e = e
 label_of_if false f g e = refl
+
 -- ---- functions of a transaction
 
 -- of an `if`, both ways keep
