@@ -3,7 +3,9 @@ pub mod Ours
 pub mod Responses
 pub mod Headers
 pub mod Routing
+pub mod Transactions
+pub mod Relaying
+pub mod Suspending
 pub mod TableRows
 pub mod Rows
 pub mod Host
-pub mod Short

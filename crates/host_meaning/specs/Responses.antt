@@ -15,7 +15,7 @@ abbrev pub is_undecided : Outcome → Bool
 is_undecided Undecided = true
 is_undecided (Stateless response) = false
 is_undecided (Answered response) = false
-is_undecided Relayed = false
+is_undecided (Relayed relay) = false
 is_undecided Suspended = false
 
 abbrev pub is_ack : Received → Bool

@@ -22,6 +22,9 @@ use Rattle.host_meaning.specs.Ours.{is_myself}
 use Rattle.host_meaning.specs.Responses.{sl_send_reply}
 use Rattle.host_meaning.specs.Headers.{is_method, has_totag, is_present_hf, remove_hf, append_hf, mf_process_maxfwd_header, record_route}
 use Rattle.host_meaning.specs.Routing.{loose_route}
+use Rattle.host_meaning.specs.Transactions.{t_newtran, t_reply, t_on_branch, t_on_failure, t_on_reply, t_set_fr, t_check_trans, t_is_canceled}
+use Rattle.host_meaning.specs.Relaying.{t_relay, append_branch}
+use Rattle.host_meaning.specs.Suspending.{t_suspend, t_continue}
 use Rattle.host_meaning.specs.TableRows.{asks_table, value_of_reply, written_by_reply, counted_by_reply, limit_written, xlog}
 
 -- the functions that have started; every other one does nothing yet
@@ -55,21 +58,35 @@ call_over a r func.AppendHf values s = append_hf r (argument values 0) s
 call_over a r (func.MfProcessMaxfwdHeader n) values s = mf_process_maxfwd_header r n s
 call_over a r func.RecordRoute values s = record_route a r s
 call_over a r func.LooseRoute values s = loose_route a r s
+call_over a r func.TNewtran values s = t_newtran r s
+call_over a r (func.TReply status) values s = t_reply r status (argument values 0) s
+call_over a r func.TRelay values s = t_relay a r s
+call_over a r func.AppendBranch values s = append_branch a values s
+call_over a r (func.TOnBranch block) values s = t_on_branch block s
+call_over a r (func.TOnFailure block) values s = t_on_failure block s
+call_over a r (func.TOnReply block) values s = t_on_reply block s
+call_over a r func.TSetFr values s = t_set_fr values s
+call_over a r func.TCheckTrans values s = t_check_trans r s
+call_over a r func.TIsCanceled values s = t_is_canceled s
+call_over a r func.TSuspend values s = t_suspend r s
+call_over a r (func.TContinue route) values s = t_continue a values route s
+-- t_check_status has its row in `Transactions`; it starts when what a run never changes has the patterns of the script
+call_over a r (func.TCheckStatus pattern) values s = idle s
 call_over a r func.Xlog values s = xlog (argument values 0) s
 call_over a r (func.ShtRmNameRe table pattern) values s = asks_table table (op.RemoveMatching pattern) counted_by_reply s
 call_over a r (func.ShtReset table) values s = asks_table table op.Reset counted_by_reply s
-call_over a r _ values s = idle s
 
 -- functions without a message: in an event block no method is one of the list
-abbrev pub call_without : Func → List Val → RunState → RowCourse
-call_without (func.IsMethod methods) values s = code (negsuc 0) s
-call_without func.Xlog values s = xlog (argument values 0) s
-call_without (func.ShtRmNameRe table pattern) values s = asks_table table (op.RemoveMatching pattern) counted_by_reply s
-call_without (func.ShtReset table) values s = asks_table table op.Reset counted_by_reply s
-call_without _ values s = idle s
+abbrev pub call_without : Around → Func → List Val → RunState → RowCourse
+call_without a (func.IsMethod methods) values s = code (negsuc 0) s
+call_without a (func.TContinue route) values s = t_continue a values route s
+call_without a func.Xlog values s = xlog (argument values 0) s
+call_without a (func.ShtRmNameRe table pattern) values s = asks_table table (op.RemoveMatching pattern) counted_by_reply s
+call_without a (func.ShtReset table) values s = asks_table table op.Reset counted_by_reply s
+call_without a _ values s = idle s
 
 abbrev pub called : Around → Option Received → Func → List Val → RunState → RowCourse
-called a None f values s = call_without f values s
+called a None f values s = call_without a f values s
 called a (Some r) f values s = call_over a r f values s
 
 -- what a variable reads where there is no message: Null

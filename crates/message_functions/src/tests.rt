@@ -656,7 +656,7 @@ fn one_stateless_response_is_decided(rt: HostRuntime) -> Result<(), Fail> {
     let mut empty = facts(alloc, BlockKind::Request, "sip:x@y")?;
     assert_eq!(rt; replied(&rt, alloc, REQUEST, &mut empty, b"")?, 1);
     let mut relayed = facts(alloc, BlockKind::Request, "sip:x@y")?;
-    relayed.outcome = Outcome::Relayed;
+    relayed.outcome = Outcome::Suspended;
     assert_eq!(rt; replied(&rt, alloc, REQUEST, &mut relayed, b"Busy")?, -1);
     Ok(())
 }

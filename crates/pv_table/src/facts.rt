@@ -47,12 +47,17 @@ pub struct Facts {
     pub avps: Avps,
     /// What `sl_send_reply`, `t_reply`, `t_relay` or `t_suspend` decided.
     pub outcome: Outcome,
-    /// The provisional responses that `t_reply` decided, in this order. They are no outcome.
-    pub provisionals: Items<Response>,
+    /// The responses that were decided and are no outcome, in this order: provisional ones by `t_reply`, the 100 by
+    /// `t_relay` and `t_suspend`, and the 200 or 481 by `t_relay` on a CANCEL.
+    pub responses: Items<Response>,
+    /// `t_relay` was called.
+    pub has_called_relay: bool,
     /// `t_set_fr` sets them.
     pub final_timers: FinalTimers,
     /// The number of the transaction's slot.
     pub slot: u32,
+    /// How often that slot was used before.
+    pub generation: u64,
     /// The label of the last suspension, where `t_suspend` made one.
     pub label: Option<u64>,
     /// How many suspensions `t_suspend` has opened in the transaction.
@@ -63,6 +68,8 @@ pub struct Facts {
     pub best_code: Option<u16>,
     /// How many branches `t_relay` has made in the transaction, those that were removed too.
     pub branches: u8,
+    /// How many of them were removed before they were sent.
+    pub removed: u8,
     /// How many suspended transactions this step has continued, by `t_continue`.
     pub continued: u8,
     /// This step is itself a continuation.
@@ -102,19 +109,23 @@ impl Facts {
             },
             avps: Avps::new(alloc),
             outcome: Outcome::Undecided,
-            provisionals: Items::new(alloc),
+            responses: Items::new(alloc),
+            has_called_relay: false,
             final_timers,
             slot: 0,
+            generation: 0,
             label: None,
             suspensions: 0,
             standing: Standing {
                 exists: false,
+                has_responded: false,
                 is_answered: false,
                 is_cancelled: false,
                 is_suspended: false,
             },
             best_code: None,
             branches: 0,
+            removed: 0,
             continued: 0,
             is_continuation: false,
             has_record_route: false,
@@ -150,8 +161,21 @@ pub struct Response {
     pub reason: Text,
 }
 
+/// What `t_relay` sends on: the edits, the targets and the rest as they stood when it was called.
+#[derive(Drop)]
+pub struct Relay {
+    pub edits: Edits,
+    /// The first target: `$ru`, and `$du` where it is set.
+    pub uri: Text,
+    pub destination: Option<Text>,
+    /// The targets behind it.
+    pub targets: Items<Target>,
+    /// The argument of `mf_process_maxfwd_header`, where it was called.
+    pub absent_hops: Option<u8>,
+}
+
 /// What a run has decided on its message. It decides once.
-#[derive(Debug, Drop)]
+#[derive(Drop)]
 pub enum Outcome {
     /// Nothing yet.
     Undecided,
@@ -160,7 +184,7 @@ pub enum Outcome {
     /// A final response of the transaction (`t_reply`).
     Answered(Response),
     /// The request is sent to its targets (`t_relay`).
-    Relayed,
+    Relayed(Relay),
     /// The request waits until it is continued (`t_suspend`).
     Suspended,
 }
@@ -179,6 +203,8 @@ pub struct FinalTimers {
 pub struct Standing {
     /// There is a transaction.
     pub exists: bool,
+    /// A response was decided, be it a provisional one.
+    pub has_responded: bool,
     /// A final response was decided.
     pub is_answered: bool,
     /// A CANCEL came.

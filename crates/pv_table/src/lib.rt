@@ -18,7 +18,7 @@ mod writing;
 
 pub use avps::{Avp, Avps};
 pub use facts::{
-    ArmedBlocks, BLOCKS, Facts, FinalTimers, Outcome, Response, RunData, Standing, Target,
+    ArmedBlocks, BLOCKS, Facts, FinalTimers, Outcome, Relay, Response, RunData, Standing, Target,
 };
 pub use fields::is_field_named;
 pub use pv_values::BlockKind;

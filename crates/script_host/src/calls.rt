@@ -1,5 +1,6 @@
 //! Functions: which of them have started, and what each is lent.
-ghost use Rattle.std.specs.Prelude.{◌≡◌, IfOk, OnErr};
+ghost use Rattle.std.specs.Prelude.{◌≡◌, IfOk, OnErr, IsTrue};
+ghost use Rattle.pv_values.specs.Kinds.{name_of};
 ghost use Rattle.host_meaning.specs.Run.{argument, received};
 ghost use Rattle.host_meaning.specs.Rows.{has_started, call_row, call_over, call_without};
 ghost use Rattle.host_meaning.specs.TableRows.{xlog, asks_table, counted_by_reply};
@@ -39,7 +40,7 @@ pub(crate) fn call(
     }
     match lent.message {
         Some(message) => call_over(alloc, lent, message, room, facts, function, values),
-        None => call_without(alloc, function, values),
+        None => call_without(alloc, lent, function, values),
     }
 }
 
@@ -87,6 +88,7 @@ fn call_over(
     values: &[Val],
 ) -> Result<Row, NoMemory>
     requires reads { Reads message.bytes.now message.message.now }
+    requires started { IsTrue (has_started (name_of function.now)) }
     ensures row { IfOk result (λ r. IsRowOf (call_over (around_of lent.now) (received message.entry.bytes.now message.entry.message.now) function.now values.now) facts.old r facts.new) }
     ensures err { OnErr result (facts.new ≡ facts.old) }
 {
@@ -154,8 +156,14 @@ fn call_over(
 }
 
 /// A function without a message.
-fn call_without(alloc: Global, function: &Func, values: &[Val]) -> Result<Row, NoMemory>
-    ensures { IfOk result (λ r. (facts : Facts) → IsRowOf (call_without function.now values.now) facts r facts) }
+fn call_without(
+    alloc: Global,
+    lent: &Lent<'_>,
+    function: &Func,
+    values: &[Val],
+) -> Result<Row, NoMemory>
+    requires started { IsTrue (has_started (name_of function.now)) }
+    ensures { IfOk result (λ r. (facts : Facts) → IsRowOf (call_without (around_of lent.now) function.now values.now) facts r facts) }
 {
     match function {
         Func::IsMethod(_) => Ok(Row::code(-1)),
@@ -163,7 +171,14 @@ fn call_without(alloc: Global, function: &Func, values: &[Val]) -> Result<Row, N
         Func::ShtRmNameRe(table, pattern) => Ok(counted(*table, TabOp::RemoveMatching(*pattern))),
         Func::ShtReset(table) => Ok(counted(*table, TabOp::Reset)),
         Func::SlSendReply(_)
-        | Func::TNewtran
+        | Func::HasTotag
+        | Func::IsPresentHf(_)
+        | Func::RemoveHf(_)
+        | Func::AppendHf
+        | Func::MfProcessMaxfwdHeader(_)
+        | Func::RecordRoute
+        | Func::LooseRoute => Ok(Row::code(-9)),
+        Func::TNewtran
         | Func::TReply(_)
         | Func::TRelay
         | Func::AppendBranch
@@ -175,14 +190,7 @@ fn call_without(alloc: Global, function: &Func, values: &[Val]) -> Result<Row, N
         | Func::TIsCanceled
         | Func::TCheckStatus(_)
         | Func::TSuspend
-        | Func::TContinue(_)
-        | Func::HasTotag
-        | Func::IsPresentHf(_)
-        | Func::RemoveHf(_)
-        | Func::AppendHf
-        | Func::MfProcessMaxfwdHeader(_)
-        | Func::RecordRoute
-        | Func::LooseRoute => Ok(Row::code(-9)),
+        | Func::TContinue(_) => unreachable!(),
     }
 }
 

@@ -1,0 +1,15 @@
+pub mod Slots
+pub mod Timers
+pub mod Sends
+pub mod Ending
+pub mod Memory
+pub mod Runs
+pub mod Rounds
+pub mod Replies
+pub mod LooseRuns
+pub mod Events
+pub mod Dialogue
+pub mod Loose
+pub mod Entries
+pub mod Steady
+pub mod Examples
