@@ -156,7 +156,7 @@ fn is_wrong_at(alloc: Global, text: &[u8], number: u64) -> bool {
 }
 
 #[test]
-fn the_first_line_in_malformed_is_told(rt: HostRuntime) {
+fn the_first_malformed_line_is_told(rt: HostRuntime) {
     let cases: [(&str, &[u8], u64); 51] = [
         ("no line", b"", 1),
         ("no end", b"#\n\n", 3),
