@@ -20,6 +20,26 @@ const OTHER: Addr = Addr {
     port: 65_535,
 };
 
+/// The example of the crate: each datagram of a scenario is dropped.
+fn dropped(alloc: Global, text: &[u8]) -> Result<Vec<u8>, Fail> {
+    let mut trace = Vec::new(alloc);
+    if let Ok(scenario) = read_scenario(alloc, text) {
+        for arrival in scenario.arrivals.iter() {
+            push_drop(alloc, &mut trace, arrival.at, Cause::NotSip)?;
+        }
+        push_end(alloc, &mut trace, scenario.end, 0)?;
+    }
+    Ok(trace)
+}
+
+#[test]
+fn a_scenario_is_read_and_its_trace_written(rt: HostRuntime) -> Result<(), Fail> {
+    let text = b"in 5 192.0.2.1:5060\n|hello\n+0d0A\nend 7\n";
+    let trace = dropped(rt.alloc(), text)?;
+    assert!(rt; trace.as_slice() == b"drop 5 not_sip\nend 7 live 0\n".as_slice());
+    Ok(())
+}
+
 /// A text, and what it says.
 #[derive(Clone, Copy)]
 struct Case<'a> {
@@ -136,7 +156,7 @@ fn is_wrong_at(alloc: Global, text: &[u8], number: u64) -> bool {
 }
 
 #[test]
-fn the_first_line_in_malformed_is_told(rt: HostRuntime) {
+fn the_first_malformed_line_is_told(rt: HostRuntime) {
     let cases: [(&str, &[u8], u64); 51] = [
         ("no line", b"", 1),
         ("no end", b"#\n\n", 3),
