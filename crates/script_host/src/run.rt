@@ -1,6 +1,9 @@
 //! A run of a block over its data.
 ghost use Rattle.std.specs.Prelude.{◌≡◌, ◌<◌, IfOk, OnErr, replicate, pos};
 ghost use Rattle.pv_values.specs.declared.value.Val.TheVariants.{Int as IntValue};
+ghost use Rattle.cfg_tree.specs.declared.script.Script.{Script};
+ghost use Rattle.cfg_tree.specs.Meaning.{dialogue};
+ghost use Rattle.cfg_code.specs.Follows.{Stands, Waits};
 
 use crate::answers::hear;
 use crate::ask::{Answer, Ask};
@@ -53,8 +56,6 @@ pub enum HostWent {
 
 impl HostRun {
     ghost use Rattle.std.specs.Prelude.{ℕ};
-    ghost use Rattle.cfg_tree.specs.declared.script.Script.{Script};
-    ghost use Rattle.cfg_code.specs.Follows.{Stands};
     ghost use Rattle.script_vm.specs.Measure.{work_left};
     ghost use Rattle.host_meaning.specs.declared.ask.Heard.{Heard};
     ghost use Rattle.host_meaning.specs.Run.{Around};
@@ -79,15 +80,8 @@ impl HostRun {
         let Ok(env) = env_at_start(alloc, loaded.vars) else {
             return Err(state);
         };
-        let run = match shop.spare.take() {
-            Some(mut run) => {
-                run.restart(loaded, block, env);
-                run
-            }
-            None => match Run::begin(alloc, loaded, block, env) {
-                Ok(run) => run,
-                Err(_) => return Err(state),
-            },
+        let Ok(run) = begun(alloc, loaded, shop, block, env) else {
+            return Err(state);
         };
         Ok(HostRun {
             run,
@@ -176,6 +170,24 @@ impl HostRun {
         shop.spare = Some(run);
         (state, how)
     }
+}
+
+/// A run of the block with these variables, in the memory of an earlier run where there was one.
+fn begun(
+    alloc: Global,
+    loaded: &Loaded,
+    shop: &mut Workshop<'_>,
+    block: u32,
+    env: Env,
+) -> Result<Run, NoMemory>
+    ensures waits { IfOk result (λ run. (script : Script) → Stands loaded.now script → Waits loaded.now run (λ _. dialogue script block env)) }
+    ensures same { shop.new ≡ shop.old }
+{
+    if let Some(mut run) = shop.spare.take() {
+        run.restart(loaded, block, env);
+        return Ok(run);
+    }
+    Run::begin(alloc, loaded, block, env)
 }
 
 /// The variables of a run that begins: each `$var` is 0, and so is `$rc`.

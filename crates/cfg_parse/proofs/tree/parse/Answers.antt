@@ -1,4 +1,4 @@
-use Rattle.std.proofs.Common.{◌≡◌, length, refl, sym}
+use Rattle.std.proofs.Common.{◌≡◌, length, sym}
 use Rattle.pv_values.specs.declared.refusal.Place.{Place}
 use Rattle.cfg_parse.specs.declared.fault.Fault.{Fault}
 use Rattle.cfg_parse.specs.declared.fault.Fault.TheVariants.{Syntax, NoMemory}
@@ -21,7 +21,7 @@ pub returns-in-Ok-clause-none : goal.returns-in-Ok-clause-none
 returns-in-Ok-clause-none c none = none _ (the_tree c.args.tokens.now (length c.args.text.now) c.in-Ok.items c.in-Ok.ensures)
 
 pub returns-in-Err-Syntax-clause-refused : goal.returns-in-Err-Syntax-clause-refused
-returns-in-Err-Syntax-clause-refused c = (refl, no_tree c.args.tokens.now (length c.args.text.now) (c.in-Err-Syntax.ensures (is_no_want _ _ c.in-Err-Syntax.field-0-is)))
+returns-in-Err-Syntax-clause-refused c = (c.number.ensures, no_tree c.args.tokens.now (length c.args.text.now) (c.in-Err-Syntax.ensures (is_no_want _ _ c.in-Err-Syntax.field-0-is)))
 
 pub returns-in-Err-Syntax-clause-exists : goal.returns-in-Err-Syntax-clause-exists
 returns-in-Err-Syntax-clause-exists c raw is = no_tree c.args.tokens.now (length c.args.text.now) (c.in-Err-Syntax.ensures (is_no_want _ _ c.in-Err-Syntax.field-0-is)) raw is
