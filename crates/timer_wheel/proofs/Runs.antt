@@ -1,5 +1,5 @@
 -- Runs of a wheel.
-use Rattle.std.proofs.Common.{◌≡◌, ℕ, List, Some, None, length, ap, ◌∙◌, refl}
+use Rattle.std.proofs.Common.{◌≡◌, ℕ, List, Option, Some, None, length, ap, ◌∙◌, refl}
 use Rattle.std.proofs.lemmas.List.{length-set}
 use Rattle.histories.proofs.Lists.{runs_keep}
 use Rattle.histories.specs.Runs.{Runs}

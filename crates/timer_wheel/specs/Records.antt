@@ -1,5 +1,5 @@
 -- What each call of a wheel answers and leaves: the wheel as a relation between its timers, a record and its timers after it.
-use Rattle.std.specs.Prelude.{◌≡◌, ℕ, ◌<◌, ◌≤◌, Some, None, length, slice_set}
+use Rattle.std.specs.Prelude.{◌≡◌, ℕ, ◌<◌, ◌≤◌, Option, Some, None, length, slice_set}
 use Rattle.timer_wheel.specs.declared.wheel.Timer.{Timer}
 use Rattle.timer_wheel.specs.declared.record.WheelRecord.{WheelRecord}
 use Rattle.timer_wheel.specs.declared.record.WheelRecord.TheVariants.{Set, Clear, Pop, Next}
