@@ -1,18 +1,18 @@
 -- What is read of the lists: which is the first that has slots, and what is in one.
-use Rattle.std.proofs.Common.{◌≡◌, ◌≢◌, ◌↔◌, ℕ, zero, suc, ◌+◌, ◌-◌, ◌*◌, ◌/◌, ◌%◌, ◌^◌, ◌<◌, ◌≤◌, ◌⊎◌, Bool, true, false, ◌||◌, List, [], ◌∷◌, ◌++◌, Option, Some, None, MatchOption, IfSome, IfNone, IsTrue, eqb, length, get_or, refl, sym, ap, ◌∙◌, subst, inl, inr, ⊎_elim, arith, w64}
+use Rattle.std.proofs.Common.{◌≡◌, ◌≢◌, ◌↔◌, ℕ, ◌+◌, ◌*◌, ◌/◌, ◌%◌, ◌^◌, ◌<◌, ◌≤◌, ◌⊎◌, Bool, true, false, ◌||◌, List, [], ◌∷◌, ◌++◌, Option, Some, None, MatchOption, IfSome, IfNone, IsTrue, eqb, length, get_or, refl, sym, ap, ◌∙◌, subst, inl, inr, ⊎_elim, arith, w64}
 use Rattle.std.specs.Int.{bit_at, trailing_zeros}
-use Rattle.std.specs.List.{slice_get, list_any, IsDistinct}
+use Rattle.std.specs.List.{list_any, IsDistinct}
 use Rattle.std.proofs.lemmas.Bool.{cases_eq, cases_lt, false≢true, eqb-true, eq-eqb}
 use Rattle.std.proofs.lemmas.Cmp.{nat_eq_equiv}
 use Rattle.std.proofs.lemmas.Option.{none-some, same_Some, slice_get_within, slice_get-get_or, get_or_from_slice_get}
-use Rattle.std.proofs.lemmas.List.{get_or_default, length-append}
+use Rattle.std.proofs.lemmas.List.{length-append}
 use Rattle.std.proofs.lemmas.List.Folds.{list_any-append}
 use Rattle.std.proofs.lemmas.Map.Keys.{IsDistinct-push, IsDistinct-from_apart}
 use Rattle.std.proofs.lemmas.Map.Steps.{length-le_from_distinct_below}
 use Rattle.std.proofs.lemmas.Nat.Bits.{bit_at-zero, bit_at-trailing_zeros}
 use Rattle.timer_wheel.specs.declared.wheel.Timer.{Timer}
 use Rattle.timer_wheel.specs.Timers.{Timers, HasTimer, GoesFirst}
-use Rattle.timer_wheel.specs.Rings.{Places, IsIn, list_of, AreRings, AreLists}
+use Rattle.timer_wheel.specs.Rings.{Places, IsIn, list_of, AreLists}
 use Rattle.timer_wheel.specs.Wheels.{IsFirstIn, NoTimerIn}
 use Rattle.timer_wheel.proofs.Rings.{is_head, reached, empty_list}
 use Rattle.timer_wheel.proofs.Writes.{in_from_list, list_from_in}

@@ -1,5 +1,5 @@
 -- In which list of the wheel a moment stands.
-use Rattle.std.specs.Prelude.{ℕ, zero, suc, ◌+◌, ◌-◌, ◌*◌, ◌/◌, ◌%◌, ◌<◌, Bool, cond, eqb, nat_lt, Option, Some, None}
+use Rattle.std.specs.Prelude.{ℕ, zero, suc, ◌+◌, ◌-◌, ◌/◌, ◌%◌, cond, eqb, nat_lt, Option, Some, None}
 use Rattle.timer_wheel.specs.declared.wheel.Timer.{Timer}
 
 -- where `due` stands from `last` on, of so many levels: 256 times the place of the highest byte in which they differ, and that

@@ -1,6 +1,6 @@
 -- Lists of slots, by links: each list is a ring of nodes. The nodes below `slots` are the slots, and node `slots + k` is the
 -- head of list k. A slot that is in no list is a ring alone.
-use Rattle.std.specs.Prelude.{◌≡◌, ◌≢◌, ◌↔◌, ℕ, ◌+◌, ◌-◌, ◌*◌, ◌/◌, ◌%◌, ◌^◌, ◌<◌, ◌≤◌, List, Option, Some, None, cond, nat_lt, length, slice_get, slice_index, slice_index_or}
+use Rattle.std.specs.Prelude.{◌≡◌, ◌≢◌, ◌↔◌, ℕ, ◌+◌, ◌-◌, ◌/◌, ◌%◌, ◌^◌, ◌<◌, List, Option, Some, None, cond, nat_lt, length, slice_get, slice_index, slice_index_or}
 use Rattle.std.specs.Int.{bit_at}
 
 -- by the number of each slot, the list in which it is, or None

@@ -1,5 +1,5 @@
 -- The wheel: lists of slots, by the moments when their timers are due.
-use Rattle.std.specs.Prelude.{◌≡◌, ℕ, ◌<◌, ◌≤◌, ◌^◌, List, Option, Some, None, IfSome, length, slice_index_or}
+use Rattle.std.specs.Prelude.{◌≡◌, ℕ, ◌<◌, ◌^◌, Option, None, IfSome, length, slice_index_or}
 use Rattle.timer_wheel.specs.declared.wheel.Timer.{Timer}
 use Rattle.timer_wheel.specs.Timers.{Timers, HasTimer, GoesFirst, IsFirst}
 use Rattle.timer_wheel.specs.Rings.{Places, IsIn}

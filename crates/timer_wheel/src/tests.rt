@@ -116,7 +116,7 @@ fn wheel_of_no_slots_has_no_timer(rt: HostRuntime) -> Result<(), Fail> {
 }
 
 /// How many slots the wheel and the plain program have.
-const SLOTS: u32 = 40;
+const SLOTS: u32 = 100;
 
 /// Moments at the borders of the levels.
 const BORDERS: [u64; 26] = [
@@ -172,10 +172,10 @@ fn moment(state: &mut u64, at: u64) -> u64 {
 
 /// Asks both for the timer that is due at `now`, and answers whether there was one.
 fn pop(rt: &impl Abort, wheel: &mut Wheel, plain: &mut Plain, now: u64) -> bool
-    requires wheel { length wheel.old ≡ 40 }
-    requires plain { length plain.old ≡ 40 }
-    ensures wheel { length wheel.new ≡ 40 }
-    ensures plain { length plain.new ≡ 40 }
+    requires wheel { length wheel.old ≡ 100 }
+    requires plain { length plain.old ≡ 100 }
+    ensures wheel { length wheel.new ≡ 100 }
+    ensures plain { length plain.new ≡ 100 }
 {
     let popped = wheel.pop_due(now);
     assert_eq!(rt; popped, plain.pop_due(now), "at {now}");
@@ -190,12 +190,12 @@ fn call_both(
     state: &mut u64,
     now: &mut u64,
 ) -> bool
-    requires wheel { length wheel.old ≡ 40 }
-    requires plain { length plain.old ≡ 40 }
-    ensures wheel { length wheel.new ≡ 40 }
-    ensures plain { length plain.new ≡ 40 }
+    requires wheel { length wheel.old ≡ 100 }
+    requires plain { length plain.old ≡ 100 }
+    ensures wheel { length wheel.new ≡ 100 }
+    ensures plain { length plain.new ≡ 100 }
 {
-    let slot = (drawn(state) % 40) as u32;
+    let slot = (drawn(state) % 100) as u32;
     match drawn(state) % 8 {
         0..=3 => {
             let (generation, due) = (drawn(state), moment(state, *now));
@@ -222,30 +222,76 @@ fn call_both(
 
 #[test]
 fn wheel_answers_as_the_plain_program(rt: HostRuntime) -> Result<(), Fail> {
-    let mut wheel = Wheel::new(rt.alloc(), SLOTS)?;
-    let mut plain = Plain::new(rt.alloc(), SLOTS)?;
-    let (mut state, mut now, mut gone_off) = (1, 0, 0u32);
-    for call in 0..8_000 {
-        if call_both(&rt, &mut wheel, &mut plain, &mut state, &mut now) {
-            gone_off = gone_off.saturating_add(1);
+    let (mut state, mut gone_off) = (1, 0u32);
+    for round in 0..20 {
+        let mut wheel = Wheel::new(rt.alloc(), SLOTS)?;
+        let mut plain = Plain::new(rt.alloc(), SLOTS)?;
+        let mut now = 0;
+        for call in 0..400 {
+            if call_both(&rt, &mut wheel, &mut plain, &mut state, &mut now) {
+                gone_off = gone_off.saturating_add(1);
+            }
         }
     }
     assert!(rt; gone_off > 1_000, "only {gone_off} timers went off");
     Ok(())
 }
 
+/// The due moments of all slots.
+#[derive(Clone, Copy)]
+enum Dues {
+    /// In one list of a higher level, later from slot to slot.
+    Rising,
+    /// The same, earlier from slot to slot.
+    Falling,
+    AtBorders,
+    AtOneMoment,
+}
+
+impl Dues {
+    fn of(self, slot: u32) -> u64 {
+        match self {
+            Dues::Rising => 70_000 + u64::from(slot) * 7,
+            Dues::Falling => 900_000u64.saturating_sub(u64::from(slot) * 7),
+            Dues::AtBorders => BORDERS[(slot % 26) as usize],
+            Dues::AtOneMoment => LAST,
+        }
+    }
+}
+
+/// Sets all slots of both, the first one again to another moment, and asserts that all go off, in the same order.
+fn all_go_off(rt: &impl Abort, wheel: &mut Wheel, plain: &mut Plain, dues: Dues)
+    requires wheel { length wheel.old ≡ 100 }
+    requires plain { length plain.old ≡ 100 }
+    ensures wheel { length wheel.new ≡ 100 }
+    ensures plain { length plain.new ≡ 100 }
+{
+    for slot in 0..SLOTS {
+        let due = dues.of(slot);
+        wheel.set(slot, 0, due);
+        plain.set(slot, 0, due);
+    }
+    let later = dues.of(SLOTS);
+    wheel.set(0, 1, later);
+    plain.set(0, 1, later);
+    for left in 0..SLOTS {
+        assert_eq!(rt; wheel.next_due(), plain.next_due());
+        assert!(rt; pop(rt, wheel, plain, LAST));
+    }
+    assert!(rt; !pop(rt, wheel, plain, LAST));
+}
+
 #[test]
 fn all_timers_go_off_in_order(rt: HostRuntime) -> Result<(), Fail> {
     let mut wheel = Wheel::new(rt.alloc(), SLOTS)?;
     let mut plain = Plain::new(rt.alloc(), SLOTS)?;
-    for slot in 0..SLOTS {
-        let due = BORDERS[(slot * 7 % 26) as usize];
-        wheel.set(slot, 0, due);
-        plain.set(slot, 0, due);
+    for dues in [
+        Dues::Rising,
+        Dues::Falling,
+        Dues::AtBorders,
+        Dues::AtOneMoment,
+    ] {
+        all_go_off(&rt, &mut wheel, &mut plain, dues);
     }
-    for left in 0..SLOTS {
-        assert!(rt; pop(&rt, &mut wheel, &mut plain, LAST));
-    }
-    assert!(rt; !pop(&rt, &mut wheel, &mut plain, LAST));
     Ok(())
 }

@@ -1,6 +1,4 @@
-use Rattle.std.proofs.Common.{◌≡◌, ◌≢◌, ℕ, ◌+◌, ◌*◌, ◌<◌, ◌≤◌, ◌^◌, length, get_or, arith, ap, sym, ◌∙◌, subst, refl, w64, rules}
-use Rattle.std.specs.Int.{trailing_zeros}
-use Rattle.timer_wheel.specs.Rings.{IsIn}
+use Rattle.std.proofs.Common.{◌<◌, ◌^◌, get_or, arith, ap, sym, ◌∙◌, rules}
 use Rattle.timer_wheel.proofs.Walks.{first_has, first_least, no_words}
 use Rattle.timer_wheel.proofs.lists.Lists.first.Goals as goal
 

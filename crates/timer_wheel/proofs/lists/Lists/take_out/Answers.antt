@@ -1,5 +1,5 @@
-use Rattle.std.proofs.Common.{◌≡◌, ◌≢◌, ℕ, ◌+◌, ◌<◌, length, rules, arith, ap, sym, ◌∙◌, subst}
-use Rattle.timer_wheel.proofs.Writes.{p_within, q_within, k_few, taken_out, emptied, word_in, head_in}
+use Rattle.std.proofs.Common.{◌≡◌, ◌<◌, length, arith, ap}
+use Rattle.timer_wheel.proofs.Writes.{p_within, q_within, k_few, taken_out, emptied, word_in}
 use Rattle.timer_wheel.proofs.lists.Lists.take_out.Goals as goal
 
 pub index_mut-requires : goal.index_mut-requires

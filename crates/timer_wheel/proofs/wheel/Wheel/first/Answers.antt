@@ -1,4 +1,4 @@
-use Rattle.std.proofs.Common.{IfSome, IfNone, sym, subst}
+use Rattle.std.proofs.Common.{IfNone, sym, subst}
 use Rattle.std.proofs.lemmas.Option.{IfSome_then}
 use Rattle.timer_wheel.specs.Timers.{IsFirst, IsIdle}
 use Rattle.timer_wheel.specs.Wheels.{IsFirstIn, NoTimerIn}

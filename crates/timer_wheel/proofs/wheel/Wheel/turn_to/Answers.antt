@@ -1,11 +1,10 @@
-use Rattle.std.proofs.Common.{◌≡◌, ◌≢◌, ℕ, ◌<◌, ◌≤◌, ◌^◌, Option, Some, None, length, get_or, set, arith, rules, refl, ap, sym, ◌∙◌, subst}
-use Rattle.std.specs.List.{slice_get}
+use Rattle.std.proofs.Common.{◌≡◌, ℕ, ◌<◌, ◌≤◌, ◌^◌, Option, Some, None, get_or, set, arith, rules, refl, ap, sym, ◌∙◌, subst}
 use Rattle.std.proofs.lemmas.Option.{slice_get-get_or}
 use Rattle.std.proofs.lemmas.List.{get_or_default, set-set}
 use Rattle.timer_wheel.specs.declared.wheel.Timer.{Timer}
 use Rattle.timer_wheel.specs.Timers.{HasTimer}
 use Rattle.timer_wheel.specs.Levels.{list_at, list_by}
-use Rattle.timer_wheel.proofs.Placed.{IsTurning, still_in, turned_low, begins_to_turn, has_turned, turning_slot, is_out, turns_on, fewer, turns_away, no_place}
+use Rattle.timer_wheel.proofs.Placed.{IsTurning, turned_low, begins_to_turn, turning_slot, is_out, turns_on, fewer, turns_away, no_place}
 use Rattle.timer_wheel.proofs.wheel.Wheel.turn_to.Goals as goal
 
 pub invariant_of-self : goal.invariant_of-self
