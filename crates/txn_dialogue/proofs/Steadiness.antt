@@ -205,7 +205,7 @@ to_branch_steady p r (Some b) w s a e =
     (cancel_of_steady r b.cancel w)
     (if_steady (bytes_eq (response_method r.response) (method_in w.origin.request.bytes w.origin.request.message.start)) (to_client p r b w) (stray w)
     (came_up_steady p (client_after b.client (class_event r.code) w.now).1.up r
-      (client_step r.branch b (class_event r.code) (ack_text b.request.bytes b.request.message r.response.bytes r.response.message) w) s a e)
+    (client_step r.branch b (class_event r.code) (ack_text b.request.bytes b.request.message r.response.bytes r.response.message) w) s a e)
     (finish_steady (Dropped cause.StrayReply) w))
 
 by_code_steady : (p : Proxy) (n : ℕ) (r : Received) (source : Addr) (o : Option ℕ) (w : Work) → p.script.reply ≡ None → w.state.armed.reply ≡ None → w.state.armed.failure ≡ None
@@ -243,8 +243,8 @@ pub ack_is_steady : (p : Proxy) (live : Live) (generation : ℕ) (text : List �
 ack_is_steady p live generation text source now e =
     by_generation p (SeenLive live) generation (Ack text source) now
     (held_steady (server_after live.state.server server.Ack now).1.loose_ack
-      (loosely_ran p (reading text) source (server_step server.Ack (work_on live now))) (finish Handled (server_step server.Ack (work_on live now)))
-      e (finish_steady Handled (server_step server.Ack (work_on live now))))
+    (loosely_ran p (reading text) source (server_step server.Ack (work_on live now))) (finish Handled (server_step server.Ack (work_on live now)))
+    e (finish_steady Handled (server_step server.Ack (work_on live now))))
 
 pub timer_is_steady : (p : Proxy) (live : Live) (generation now : ℕ) → HasNoFailureBlock live → Steady (dialogue p (SeenLive live) generation Timer now)
 timer_is_steady p live generation now e = by_generation p (SeenLive live) generation Timer now (fired_steady p (timer_at now live.state) (work_on live now) e)

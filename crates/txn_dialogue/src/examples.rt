@@ -94,10 +94,10 @@ pub fn a_silent_run()
     ensures transaction { lines_of (begun (example_proxy []) makes_nothing invite sent_and_noted).asks
         ≡ ask.Send caller (codes "SIP/2.0 500 Server Internal Error") ∷ ask.Due (Some 500) ∷ [] }
     ensures none { lines_of (story (SeenVacant 0) (dialogue (example_proxy ([] ∷ [])) (SeenVacant 0) 0 (Request invite caller) 0)
-            (heard.Block true ∷ heard.Block true ∷ heard.Noted ∷ heard.Noted ∷ heard.Noted ∷ heard.Noted ∷ [])).asks
+        (heard.Block true ∷ heard.Block true ∷ heard.Noted ∷ heard.Noted ∷ heard.Noted ∷ heard.Noted ∷ [])).asks
         ≡ ask.Block ∷ ask.Block ∷ ask.GiveBack ∷ ask.GiveBack ∷ ask.Due None ∷ ask.Free ∷ [] }
     ensures no_block { lines_of (story (SeenVacant 0) (dialogue (example_proxy ([] ∷ [])) (SeenVacant 0) 0 (Request invite caller) 0)
-            (heard.Block true ∷ heard.Block false ∷ heard.Sent ∷ heard.Noted ∷ heard.Noted ∷ heard.Noted ∷ [])).asks
+        (heard.Block true ∷ heard.Block false ∷ heard.Sent ∷ heard.Noted ∷ heard.Noted ∷ heard.Noted ∷ [])).asks
         ≡ ask.Block ∷ ask.Block ∷ ask.Send caller (codes "SIP/2.0 503 Service Unavailable") ∷ ask.GiveBack ∷ ask.Due None ∷ ask.Free ∷ [] }
 {}
 
@@ -112,41 +112,41 @@ pub fn out_of_memory()
 /// A first request that finds no memory is answered 500, and its slot is free again.
 pub fn a_first_request_without_memory()
     ensures { lines_of (story (SeenVacant 0) (first_does (example_proxy []) (short (record { blocks = 0; label = None })) (reading invite))
-            (heard.Sent ∷ heard.Noted ∷ heard.Noted ∷ heard.Noted ∷ heard.Noted ∷ [])).asks
+        (heard.Sent ∷ heard.Noted ∷ heard.Noted ∷ heard.Noted ∷ heard.Noted ∷ [])).asks
         ≡ ask.Send caller (codes "SIP/2.0 500 Out of Memory") ∷ ask.GiveBack ∷ ask.GiveBack ∷ ask.Due None ∷ ask.Free ∷ [] }
 {}
 
 /// Of 404, 401 and 503 on three branches the 401 goes back; where the last is a 407, its challenge stands in the 401.
 pub fn the_best_of_three_responses()
     ensures chosen { lines_of (then_responds (example_proxy []) (then_responds (example_proxy []) (then_responds (example_proxy []) forked
-            0 (codes "0") (codes "SIP/2.0 404 Not Found") 10 sent_and_noted) 1 (codes "1") (codes "SIP/2.0 401 Unauthorized") 20 sent_and_noted)
-            2 (codes "2") (codes "SIP/2.0 503 Service Unavailable") 30 two_sent).asks
+        0 (codes "0") (codes "SIP/2.0 404 Not Found") 10 sent_and_noted) 1 (codes "1") (codes "SIP/2.0 401 Unauthorized") 20 sent_and_noted)
+        2 (codes "2") (codes "SIP/2.0 503 Service Unavailable") 30 two_sent).asks
         ≡ ask.Send (others 2) (codes "ACK sip:d@192.0.2.11 SIP/2.0") ∷ ask.Send caller (codes "SIP/2.0 401 Unauthorized") ∷ ask.Due (Some 530) ∷ [] }
     ensures joined { texts_to caller (then_responds (example_proxy []) (then_responds (example_proxy []) (then_responds (example_proxy []) forked
-            0 (codes "0") (codes "SIP/2.0 404 Not Found") 10 sent_and_noted) 1 (codes "1") (codes "SIP/2.0 401 Unauthorized") 20 sent_and_noted)
-            2 (codes "2") (codes "SIP/2.0 407 Proxy Authentication Required\r\nProxy-Authenticate: Digest realm=\"y\"") 30 two_sent).asks
+        0 (codes "0") (codes "SIP/2.0 404 Not Found") 10 sent_and_noted) 1 (codes "1") (codes "SIP/2.0 401 Unauthorized") 20 sent_and_noted)
+        2 (codes "2") (codes "SIP/2.0 407 Proxy Authentication Required\r\nProxy-Authenticate: Digest realm=\"y\"") 30 two_sent).asks
         ≡ codes "SIP/2.0 401 Unauthorized\r\nVia: SIP/2.0/UDP 192.0.2.1;branch=z9hG4bK6\r\nFrom: <sip:u@192.0.2.1>;tag=f\r\nTo: <sip:b@192.0.2.9>;tag=t\r\nCall-ID: 6\r\nCSeq: 1 INVITE\r\nContent-Length: 0\r\nProxy-Authenticate: Digest realm=\"y\"\r\n\r\n" ∷ [] }
 {}
 
 /// A 2xx goes on first, and then the other branches are cancelled that have a provisional response.
 pub fn a_success_cancels_the_others()
     ensures { lines_of (then_responds (example_proxy []) (then_responds (example_proxy []) forked
-            1 (codes "1") (codes "SIP/2.0 180 Ringing") 10 sent_and_noted) 0 (codes "0") (codes "SIP/2.0 200 OK") 20 two_sent).asks
+        1 (codes "1") (codes "SIP/2.0 180 Ringing") 10 sent_and_noted) 0 (codes "0") (codes "SIP/2.0 200 OK") 20 two_sent).asks
         ≡ ask.Send caller (codes "SIP/2.0 200 OK") ∷ ask.Send (others 1) (codes "CANCEL sip:c@192.0.2.10 SIP/2.0") ∷ ask.Due (Some 500) ∷ [] }
 {}
 
 /// A branch block that ends by `drop` removes its target, whatever it was, and its blocks go back; a round without a branch counts as 503.
 pub fn a_dropped_target_is_removed()
     ensures { (launch : Option Launch) → lines_of (story (SeenVacant 0) (first_does (example_proxy [])
-            (λ w. all_launched (over (example_proxy []) 12) (launched (unless_drop Drop launch) (record w { blocks = 4; exists = true }))) (reading invite))
-            (heard.Sent ∷ heard.Noted ∷ heard.Noted ∷ heard.Noted ∷ [])).asks
+        (λ w. all_launched (over (example_proxy []) 12) (launched (unless_drop Drop launch) (record w { blocks = 4; exists = true }))) (reading invite))
+        (heard.Sent ∷ heard.Noted ∷ heard.Noted ∷ heard.Noted ∷ [])).asks
         ≡ ask.Send caller (codes "SIP/2.0 500 Server Internal Error") ∷ ask.GiveBack ∷ ask.GiveBack ∷ ask.Due (Some 500) ∷ [] }
 {}
 
 /// A failure block that decides nothing lets the best response go back; one that relays begins a second round.
 pub fn a_failure_block_runs()
     ensures silent { lines_of (then_responds (example_proxy ([] ∷ [])) (begun (example_proxy ([] ∷ [])) (λ r s. relays_to [] r (with_blocks None (Some 0) s)) invite two_sent)
-            0 (codes "0") (codes "SIP/2.0 486 Busy Here") 200 two_sent).asks
+        0 (codes "0") (codes "SIP/2.0 486 Busy Here") 200 two_sent).asks
         ≡ ask.Send callee (codes "ACK sip:b@192.0.2.9 SIP/2.0") ∷ ask.Send caller (codes "SIP/2.0 486 Busy Here") ∷ ask.Due (Some 700) ∷ [] }
     ensures relays { lines_of (on_slot ringing 200 (after_failure_by (example_proxy []) (over (example_proxy []) 11) (made 486) (Relayed (relay_to (codes "sip:c@192.0.2.10")))) sent_and_noted).asks
         ≡ ask.Send (others 1) (codes "INVITE sip:c@192.0.2.10 SIP/2.0") ∷ ask.Due (Some 500) ∷ [] }
