@@ -16,6 +16,17 @@ pub struct Avp {
     pub value: Val,
 }
 
+impl Avp {
+    fn copy(&self, alloc: Global) -> Result<Avp, NoMemory>
+        ensures { IfOk result (λ a. a ≡ self.now) }
+    {
+        Ok(Avp {
+            name: self.name.copy(alloc)?,
+            value: self.value.copy(alloc)?,
+        })
+    }
+}
+
 /// The AVPs of a transaction. Contracts see them as a list, the newest first.
 #[derive(Drop)]
 pub struct Avps {
@@ -80,6 +91,16 @@ impl Avps {
             Some(avp) => avp.value.copy(alloc),
             None => Ok(Val::Null),
         }
+    }
+
+    pub fn copy(&self, alloc: Global) -> Result<Avps, NoMemory>
+        ensures { IfOk result (λ a. a ≡ self.now) }
+    {
+        let mut list = VecDeque::new(alloc);
+        for avp in &self.list {
+            list.push_back(avp.copy(alloc)?)?;
+        }
+        Ok(Avps { list })
     }
 
     /// Puts a value before the others.

@@ -8,6 +8,7 @@
 #![tactic(auto)]
 
 mod avps;
+mod copies;
 mod facts;
 mod fields;
 mod reading;

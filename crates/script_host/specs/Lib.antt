@@ -2,3 +2,4 @@ pub mod Asking
 pub mod Lending
 pub mod Rows
 pub mod Running
+pub mod Restoring

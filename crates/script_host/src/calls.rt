@@ -100,58 +100,31 @@ fn call_over(
         Func::SlSendReply(status) => {
             let reason = argument(alloc, values, 0)?;
             let code = sl_send_reply(b, m, facts, *status, reason, room);
-            Ok(Row::Tells(HostAnswer::Code(code)))
+            Ok(Row::code(code))
         }
-        Func::IsMethod(methods) => Ok(Row::Tells(HostAnswer::Code(is_method(
-            b,
-            m,
-            methods.bytes(),
-        )))),
-        Func::HasTotag => Ok(Row::Tells(HostAnswer::Code(has_totag(m)))),
-        Func::IsPresentHf(name) => Ok(Row::Tells(HostAnswer::Code(is_present_hf(
-            b,
-            m,
-            name.bytes(),
-        )))),
-        Func::RemoveHf(name) => Ok(Row::Tells(HostAnswer::Code(remove_hf(
-            b,
-            m,
-            facts,
-            name.bytes(),
-        )))),
+        Func::IsMethod(methods) => Ok(Row::code(is_method(b, m, methods.bytes()))),
+        Func::HasTotag => Ok(Row::code(has_totag(m))),
+        Func::IsPresentHf(name) => Ok(Row::code(is_present_hf(b, m, name.bytes()))),
+        Func::RemoveHf(name) => Ok(Row::code(remove_hf(b, m, facts, name.bytes()))),
         Func::AppendHf => {
             let text = argument(alloc, values, 0)?;
             let code = append_hf(alloc, b, m, facts, text.bytes(), room)?;
-            Ok(Row::Tells(HostAnswer::Code(code)))
+            Ok(Row::code(code))
         }
-        Func::MfProcessMaxfwdHeader(n) => {
-            Ok(Row::Tells(HostAnswer::Code(mf_process_maxfwd_header(m, facts, *n))))
-        }
+        Func::MfProcessMaxfwdHeader(n) => Ok(Row::code(mf_process_maxfwd_header(m, facts, *n))),
         Func::RecordRoute => {
             let code = record_route(alloc, m, facts, lent.settings.listen)?;
-            Ok(Row::Tells(HostAnswer::Code(code)))
+            Ok(Row::code(code))
         }
         Func::LooseRoute => {
             let loaded = lent.loaded;
             let code = loose_route(alloc, b, m, facts, lent.settings, &loaded.parameters)?;
-            Ok(Row::Tells(HostAnswer::Code(code)))
+            Ok(Row::code(code))
         }
         Func::Xlog => log(alloc, values),
         Func::ShtRmNameRe(table, pattern) => Ok(counted(*table, TabOp::RemoveMatching(*pattern))),
         Func::ShtReset(table) => Ok(counted(*table, TabOp::Reset)),
-        Func::TNewtran
-        | Func::TReply(_)
-        | Func::TRelay
-        | Func::AppendBranch
-        | Func::TOnBranch(_)
-        | Func::TOnFailure(_)
-        | Func::TOnReply(_)
-        | Func::TSetFr
-        | Func::TCheckTrans
-        | Func::TIsCanceled
-        | Func::TCheckStatus(_)
-        | Func::TSuspend
-        | Func::TContinue(_) => Ok(Row::Tells(HostAnswer::Code(-9))),
+        _ => unreachable!(),
     }
 }
 
