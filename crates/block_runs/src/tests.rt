@@ -15,8 +15,9 @@ use cfg_compile::compile;
 use cfg_lex::lex;
 use cfg_parse::parse;
 use outside_ports::Addr;
+use playing::Setting;
 use pv_values::ScriptFault;
-use script_host::{Hosts, Settings};
+use script_host::{BlockKind, Hosts, Settings};
 use sip_msg::Message;
 use std::alloc::Global;
 use std::process::Abort;
@@ -25,9 +26,16 @@ use std::process::Abort;
 const OPTIONS: &str =
     "OPTIONS sip:b@192.0.2.9 SIP/2.0\r\nVia: SIP/2.0/UDP 192.0.2.1;branch=z9hG4bK4\r\nMax-Forwards: 70\r\nFrom: <sip:u@192.0.2.1>;tag=f\r\nTo: <sip:b@192.0.2.9>\r\nCall-ID: 4\r\nCSeq: 1 OPTIONS\r\nContent-Length: 0\r\n\r\n";
 
-/// A response to it.
+/// A response to it, as it comes to the proxy: below the proxy's own Via value.
 const BUSY: &str =
-    "SIP/2.0 486 Busy Here\r\nVia: SIP/2.0/UDP 192.0.2.1;branch=z9hG4bK4\r\nFrom: <sip:u@192.0.2.1>;tag=f\r\nTo: <sip:b@192.0.2.9>;tag=t\r\nCall-ID: 4\r\nCSeq: 1 OPTIONS\r\nContent-Length: 0\r\n\r\n";
+    "SIP/2.0 486 Busy Here\r\nVia: SIP/2.0/UDP 127.0.0.1:5060;branch=z9hG4bKrs00000001.0.0.0\r\nVia: SIP/2.0/UDP 192.0.2.1;branch=z9hG4bK4\r\nFrom: <sip:u@192.0.2.1>;tag=f\r\nTo: <sip:b@192.0.2.9>;tag=t\r\nCall-ID: 4\r\nCSeq: 1 OPTIONS\r\nContent-Length: 0\r\n\r\n";
+
+/// The first block of a script, over `OPTIONS`.
+const REQUEST: Setting = Setting {
+    kind: BlockKind::Request,
+    block: 0,
+    message: OPTIONS,
+};
 
 /// 127.0.0.1:5060
 const LISTEN: Addr = Addr {

@@ -1,15 +1,8 @@
 //! What blocks ask of tables and of the log, and what they make of the answers.
 
-use super::OPTIONS;
-use super::playing::{Course, Setting, goes};
-use script_host::BlockKind;
+use super::REQUEST;
+use super::playing::{Course, goes};
 use std::test::Fail;
-
-const REQUEST: Setting = Setting {
-    kind: BlockKind::Request,
-    block: 0,
-    message: OPTIONS,
-};
 
 const TABLES: [Course; 9] = [
     Course {
@@ -80,23 +73,80 @@ const TABLES: [Course; 9] = [
     Course {
         script: "modparam('htable', 'htable', 't=>') request_route { $var(a) = $sht(t=>k); xlog('on'); }",
         answers: &["no memory"],
-        lines: &["0 get k", "no memory"],
+        lines: &["0 get k", "NoMemory"],
     },
     Course {
         script: "request_route { xlog('on'); sl_send_reply('200', 'OK'); }",
         answers: &["no memory"],
-        lines: &["log on", "no memory"],
+        lines: &["log on", "NoMemory"],
     },
     Course {
         script: "modparam('htable', 'htable', 't=>') request_route { sht_reset('t'); $var(a) = 1; }",
         answers: &["no memory"],
-        lines: &["0 reset", "no memory"],
+        lines: &["0 reset", "NoMemory"],
+    },
+];
+
+/// An answer that doesn't fit its ask counts as an object that found no memory.
+const UNFIT: [Course; 9] = [
+    Course {
+        script: "modparam('htable', 'htable', 't=>') request_route { $var(a) = $sht(t=>k); }",
+        answers: &["done"],
+        lines: &["0 get k", "NoMemory"],
+    },
+    Course {
+        script: "modparam('htable', 'htable', 't=>') request_route { $var(a) = $shtinc(t=>k); }",
+        answers: &["count"],
+        lines: &["0 inc k", "NoMemory"],
+    },
+    Course {
+        script: "modparam('htable', 'htable', 't=>') request_route { $var(a) = $sht(t=>k); }",
+        answers: &["noted"],
+        lines: &["0 get k", "NoMemory"],
+    },
+    Course {
+        script: "modparam('htable', 'htable', 't=>') request_route { $sht(t=>k) = 1; }",
+        answers: &["7"],
+        lines: &["0 set k 1", "NoMemory"],
+    },
+    Course {
+        script: "modparam('htable', 'htable', 't=>') request_route { $shtex(t=>k) = 1; }",
+        answers: &["no number"],
+        lines: &["0 limit k 1", "NoMemory"],
+    },
+    Course {
+        script: "modparam('htable', 'htable', 't=>') request_route { sht_reset('t'); }",
+        answers: &["done"],
+        lines: &["0 reset", "NoMemory"],
+    },
+    Course {
+        script: "request_route { xlog('a'); }",
+        answers: &["done"],
+        lines: &["log a", "NoMemory"],
+    },
+    Course {
+        script: "request_route { xlog('a'); }",
+        answers: &["sent"],
+        lines: &["log a", "NoMemory"],
+    },
+    Course {
+        script: "request_route { xlog('a'); }",
+        answers: &["no block"],
+        lines: &["log a", "NoMemory"],
     },
 ];
 
 #[test]
 fn tables_and_the_log_are_asked_and_answer(rt: HostRuntime) -> Result<(), Fail> {
     for course in &TABLES {
+        goes(&rt, rt.alloc(), REQUEST, course)?;
+    }
+    Ok(())
+}
+
+#[test]
+fn an_answer_that_does_not_fit_is_no_memory(rt: HostRuntime) -> Result<(), Fail> {
+    for course in &UNFIT {
         goes(&rt, rt.alloc(), REQUEST, course)?;
     }
     Ok(())

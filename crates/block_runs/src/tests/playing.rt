@@ -90,36 +90,36 @@ fn answer_at(alloc: Global, words: &[&str], at: usize) -> Result<Answer, AllocEr
     }
 }
 
-/// What a run asks that takes these answers, how it ends, and what it decides.
-fn played(
+/// What a run asks that takes these answers, how it ends, and what it decides; and its data then.
+pub fn played(
     alloc: Global,
     lent: &Lent<'_>,
     shop: &mut Workshop<'_>,
     run: HostRun,
     words: &[&str],
-) -> Result<Vec<String>, AllocError>
+) -> Result<(Vec<String>, RunData), AllocError>
     requires { IsRead lent.now }
 {
     let mut run = run;
     let mut lines = Vec::new(alloc);
     let mut answer = Answer::Start;
+    let mut went = HostWent::Asks;
     for at in 0..MOST {
-        match run.advance(alloc, lent, shop, answer) {
-            HostWent::Asks => lines.push(asked(alloc, run.asked())?)?,
-            HostWent::NoMemory => {
-                lines.push(format!(in alloc; "no memory")?)?;
-                break;
-            }
-            HostWent::Ended => {
-                let (state, how) = run.close(alloc, shop);
-                lines.push(format!(in alloc; "{how:?}")?)?;
-                lines.push(decided(alloc, &state.facts.outcome)?)?;
-                return Ok(lines);
-            }
+        went = run.advance(alloc, lent, shop, answer);
+        if went != HostWent::Asks {
+            break;
         }
+        lines.push(asked(alloc, run.asked())?)?;
         answer = answer_at(alloc, words, at)?;
     }
-    Ok(lines)
+    let (state, how) = run.close(alloc, shop);
+    if went == HostWent::Ended {
+        lines.push(format!(in alloc; "{how:?}")?)?;
+        lines.push(decided(alloc, &state.facts.outcome)?)?;
+    } else {
+        lines.push(format!(in alloc; "{went:?}")?)?;
+    }
+    Ok((lines, state))
 }
 
 /// The lines are these.
@@ -142,7 +142,7 @@ pub fn goes(rt: &impl Abort, alloc: Global, at: Setting, course: &Course) -> Res
     let Ok(run) = HostRun::begin(alloc, &loaded, &mut shop, at.block, data) else {
         return Err(AllocError.into());
     };
-    let lines = played(alloc, &lent, &mut shop, run, course.answers)?;
+    let (lines, _state) = played(alloc, &lent, &mut shop, run, course.answers)?;
     are(rt, course.script, lines.as_slice(), course.lines);
     Ok(())
 }
