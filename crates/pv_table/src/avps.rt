@@ -97,8 +97,8 @@ impl Avps {
         ensures { IfOk result (λ a. a ≡ self.now) }
     {
         let mut list = VecDeque::new(alloc);
-        for avp in &self.list {
-            list.push_back(avp.copy(alloc)?)?;
+        for place in 0..self.list.len() {
+            list.push_back(self.list[place].copy(alloc)?)?;
         }
         Ok(Avps { list })
     }

@@ -6,12 +6,14 @@ use Rattle.pv_values.specs.declared.run.How.{How}
 use Rattle.cfg_tree.specs.Meaning.{RunTalk}
 use Rattle.cfg_code.specs.Flat.{FlatScript}
 use Rattle.cfg_code.specs.Follows.{Waits}
+use Rattle.cfg_code.specs.declared.machine.Wait.TheVariants as wait
 use Rattle.script_vm.specs.Running.{how_ended}
 use Rattle.pv_table.specs.declared.facts.RunData.{RunData}
 use Rattle.host_meaning.specs.declared.ask.Heard.{Heard}
 use Rattle.host_meaning.specs.Run.{Around, kept}
 use Rattle.host_meaning.specs.Host.{HostCourse, Finished, RanOut, resumed, host}
 use Rattle.script_host.specs.declared.ask.Ask.{Ask}
+use Rattle.script_host.specs.declared.row.Wait.TheVariants as host_wait
 use Rattle.script_host.specs.declared.run.HostRun.{HostRun}
 use Rattle.script_host.specs.declared.run.HostWent.{HostWent}
 use Rattle.script_host.specs.declared.run.HostWent.TheVariants as went
@@ -33,6 +35,10 @@ how_of h = how_ended h.run.wait
 abbrev pub with_ask : HostRun → Ask → HostRun
 with_ask h a = record h { ask = a }
 
+-- a run that has ended so, and waits for nothing
+abbrev pub HasEnded : HostRun → How → Type 0
+HasEnded h how = (h.run.wait ≡ wait.Over how) × (h.wait ≡ host_wait.Start)
+
 -- a run that waits goes on from each answer as this says
 pub record HostWaits (loaded : FlatScript) (a : Around) (h : HostRun) (next : Heard → HostCourse) : Type 0 where
   pub inner : HostAnswer → RunTalk
@@ -46,7 +52,7 @@ IsHostWent loaded a (Asks ask next) h went.Asks = (as_asked (ask_of h) [] ≡ as
 IsHostWent loaded a (Asks ask next) h went.Ended = ⊥
 IsHostWent loaded a (Asks ask next) h went.NoMemory = ⊥
 IsHostWent loaded a (Ends (Finished s how)) h went.Asks = ⊥
-IsHostWent loaded a (Ends (Finished s how)) h went.Ended = (state_of (state_in h) ≡ s) × (how_of h ≡ how)
+IsHostWent loaded a (Ends (Finished s how)) h went.Ended = (state_of (state_in h) ≡ s) × (how_of h ≡ how) × HasEnded h how
 IsHostWent loaded a (Ends (Finished s how)) h went.NoMemory = ⊥
 IsHostWent loaded a (Ends (RanOut k)) h went.Asks = ⊥
 IsHostWent loaded a (Ends (RanOut k)) h went.Ended = ⊥

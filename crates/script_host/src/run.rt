@@ -56,13 +56,14 @@ pub enum HostWent {
 
 impl HostRun {
     ghost use Rattle.std.specs.Prelude.{ℕ};
+    ghost use Rattle.pv_values.specs.declared.run.How.{How};
     ghost use Rattle.script_vm.specs.Measure.{work_left};
     ghost use Rattle.host_meaning.specs.declared.ask.Heard.{Heard};
     ghost use Rattle.host_meaning.specs.Run.{Around};
     ghost use Rattle.host_meaning.specs.Host.{HostCourse, run_of};
     ghost use Rattle.script_host.specs.Asking.{as_heard};
     ghost use Rattle.script_host.specs.Lending.{around_of, IsRead, state_of};
-    ghost use Rattle.script_host.specs.Running.{HostWaits, IsHostWent, OnAsks, ask_of, state_in, how_of, with_ask};
+    ghost use Rattle.script_host.specs.Running.{HostWaits, IsHostWent, OnAsks, HasEnded, ask_of, state_in, how_of, with_ask};
 
     /// A run of the block of this number over these data. The first answer that it takes may be any. Where it finds no memory
     /// the data come back.
@@ -91,7 +92,8 @@ impl HostRun {
         })
     }
 
-    /// Takes the answer to the last ask, and goes on to the next ask outside or to the end, as the block means.
+    /// Takes the answer to the last ask, and goes on to the next ask outside or to the end, as the block means. A run that has
+    /// ended stays as it is, and ends again.
     pub fn advance(
         &mut self,
         alloc: Global,
@@ -104,6 +106,7 @@ impl HostRun {
             → IsHostWent lent.now.loaded.now (around_of lent.now) (next (as_heard answer)) self.new result }
         // A run asks finitely often.
         ensures less { OnAsks result (work_left lent.now.loaded.now self.new.run < work_left lent.now.loaded.now self.old.run) }
+        ensures again { (how : How) → HasEnded self.old how → (result ≡ HostWent.Ended) × (self.new ≡ self.old) }
         ensures same { shop.new ≡ shop.old }
     {
         let Ok(heard) = hear(self.wait, answer) else {
@@ -124,7 +127,7 @@ impl HostRun {
                         Err(_) => return HostWent::NoMemory,
                     }
                 }
-                Went::Ended => return HostWent::Ended,
+                Went::Ended => return self.ends(),
                 Went::NoMemory => return HostWent::NoMemory,
             }
         }
@@ -138,6 +141,15 @@ impl HostRun {
         self.ask = ask;
         self.wait = wait;
         HostWent::Asks
+    }
+
+    /// Has ended: whatever it is answered now, it ends again.
+    fn ends(&mut self) -> HostWent
+        ensures ended { result ≡ HostWent.Ended }
+        ensures new { self.new ≡ record self.old { wait = Wait.Start } }
+    {
+        self.wait = Wait::Start;
+        HostWent::Ended
     }
 
     /// What was asked last.
