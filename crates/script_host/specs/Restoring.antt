@@ -9,7 +9,7 @@ use Rattle.host_meaning.specs.Host.{HostCourse, Finished, RanOut}
 use Rattle.script_host.specs.declared.run.HostRun.{HostRun}
 use Rattle.script_host.specs.declared.restorable.RestorableRun.{RestorableRun}
 use Rattle.script_host.specs.declared.restorable.HostNext.{HostNext}
-use Rattle.script_host.specs.declared.restorable.HostNext.TheVariants as next
+use Rattle.script_host.specs.declared.restorable.HostNext.TheVariants as onward
 use Rattle.script_host.specs.Asking.{as_asked}
 use Rattle.script_host.specs.Lending.{state_of}
 use Rattle.script_host.specs.Running.{HostWaits}
@@ -24,7 +24,7 @@ facts_before r = r.before
 -- a run that began with these facts and waits, and goes on from each answer as this says
 pub record RestorableWaits (loaded : FlatScript) (a : Around) (before : Facts) (r : RestorableRun) (next : Heard → HostCourse) : Type 0 where
   pub waits : HostWaits loaded a (run_in r) next
-  pub before : facts_before r ≡ before
+  pub began : facts_before r ≡ before
 
 -- the facts as they were, with what is left of a run that found no memory: the blocks that it holds, and the suspension that it opened
 -- last
@@ -34,18 +34,18 @@ as_before before k = record { facts = record before { label = k.label }; blocks 
 -- how a run went on is what its course says
 abbrev pub IsHostNext : FlatScript → Around → Facts → HostCourse → HostNext → Type 0
 IsHostNext loaded a before (Takes short on) n = IsHostNext loaded a before short n ⊎ IsHostNext loaded a before on n
-IsHostNext loaded a before (Asks ask next) (next.Asks run asked) = (as_asked asked [] ≡ ask) × RestorableWaits loaded a before run next
-IsHostNext loaded a before (Asks ask next) (next.Ended d how) = ⊥
-IsHostNext loaded a before (Asks ask next) (next.NoMemory d) = ⊥
-IsHostNext loaded a before (Ends (Finished s how)) (next.Asks run asked) = ⊥
-IsHostNext loaded a before (Ends (Finished s how)) (next.Ended d ended) = (state_of d ≡ s) × (ended ≡ how)
-IsHostNext loaded a before (Ends (Finished s how)) (next.NoMemory d) = ⊥
-IsHostNext loaded a before (Ends (RanOut k)) (next.Asks run asked) = ⊥
-IsHostNext loaded a before (Ends (RanOut k)) (next.Ended d how) = ⊥
-IsHostNext loaded a before (Ends (RanOut k)) (next.NoMemory d) = state_of d ≡ as_before before k
+IsHostNext loaded a before (Asks ask next) (onward.Asks run asked) = (as_asked asked [] ≡ ask) × RestorableWaits loaded a before run next
+IsHostNext loaded a before (Asks ask next) (onward.Ended d how) = ⊥
+IsHostNext loaded a before (Asks ask next) (onward.NoMemory d) = ⊥
+IsHostNext loaded a before (Ends (Finished s how)) (onward.Asks run asked) = ⊥
+IsHostNext loaded a before (Ends (Finished s how)) (onward.Ended d ended) = (state_of d ≡ s) × (ended ≡ how)
+IsHostNext loaded a before (Ends (Finished s how)) (onward.NoMemory d) = ⊥
+IsHostNext loaded a before (Ends (RanOut k)) (onward.Asks run asked) = ⊥
+IsHostNext loaded a before (Ends (RanOut k)) (onward.Ended d how) = ⊥
+IsHostNext loaded a before (Ends (RanOut k)) (onward.NoMemory d) = state_of d ≡ as_before before k
 
 -- a fact of the run that asks
 abbrev pub OnNext : HostNext → (RestorableRun → Type 0) → Type 0
-OnNext (next.Asks run asked) P = P run
-OnNext (next.Ended d how) P = Unit {0}
-OnNext (next.NoMemory d) P = Unit {0}
+OnNext (onward.Asks run asked) P = P run
+OnNext (onward.Ended d how) P = Unit {0}
+OnNext (onward.NoMemory d) P = Unit {0}

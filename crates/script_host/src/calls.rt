@@ -92,15 +92,11 @@ fn call_over(
     ensures row { IfOk result (λ r. IsRowOf (call_over (around_of lent.now) (received message.entry.bytes.now message.entry.message.now) function.now values.now) facts.old r facts.new) }
     ensures err { OnErr result (facts.new ≡ facts.old) }
 {
-    let MessageView {
-        bytes: b,
-        message: m,
-    } = message;
+    let (b, m) = (message.bytes, message.message);
     match function {
         Func::SlSendReply(status) => {
             let reason = argument(alloc, values, 0)?;
-            let code = sl_send_reply(b, m, facts, *status, reason, room);
-            Ok(Row::code(code))
+            Ok(Row::code(sl_send_reply(b, m, facts, *status, reason, room)))
         }
         Func::IsMethod(methods) => Ok(Row::code(is_method(b, m, methods.bytes()))),
         Func::HasTotag => Ok(Row::code(has_totag(m))),
@@ -108,14 +104,10 @@ fn call_over(
         Func::RemoveHf(name) => Ok(Row::code(remove_hf(b, m, facts, name.bytes()))),
         Func::AppendHf => {
             let text = argument(alloc, values, 0)?;
-            let code = append_hf(alloc, b, m, facts, text.bytes(), room)?;
-            Ok(Row::code(code))
+            Ok(Row::code(append_hf(alloc, b, m, facts, text.bytes(), room)?))
         }
         Func::MfProcessMaxfwdHeader(n) => Ok(Row::code(mf_process_maxfwd_header(m, facts, *n))),
-        Func::RecordRoute => {
-            let code = record_route(alloc, m, facts, lent.settings.listen)?;
-            Ok(Row::code(code))
-        }
+        Func::RecordRoute => Ok(Row::code(record_route(alloc, m, facts, lent.settings.listen)?)),
         Func::LooseRoute => {
             let loaded = lent.loaded;
             let code = loose_route(alloc, b, m, facts, lent.settings, &loaded.parameters)?;

@@ -13,25 +13,26 @@ use Rattle.script_host.proofs.calls.call_over.Goals as goal
 pub returns-in-HasTotag-clause-row : goal.returns-in-HasTotag-clause-row
 returns-in-HasTotag-clause-row c =
     let fits : SFits w64 c.has_totag.result = search rules in
-    coded_as (around_of c.args.lent.now) (received c.args.message.bytes.now c.args.message.message.now) c.args.function.now func.HasTotag c.args.values.now c.has_totag.result (to_z-of_z w64 c.has_totag.result fits) c.args.facts.now c.args.facts.now c.in-HasTotag.is
+    coded_as (around_of c.args.lent.now) (received c.args.message.bytes.now c.args.message.message.now) c.args.function.now func.HasTotag c.args.values.now c.has_totag.result (to_z-of_z w64 c.has_totag.result fits) c.code-in-HasTotag.ensures c.args.facts.now c.args.facts.now c.in-HasTotag.is
     (λ blocks. c.has_totag.ensures c.args.message.bytes.now (with_blocks c.args.facts.now blocks))
 
 pub returns-in-MfProcessMaxfwdHeader-clause-row : goal.returns-in-MfProcessMaxfwdHeader-clause-row
 returns-in-MfProcessMaxfwdHeader-clause-row c =
     let fits : SFits w64 c.mf_process_maxfwd_header.result = search rules in
-    coded_as (around_of c.args.lent.now) (received c.args.message.bytes.now c.args.message.message.now) c.args.function.now (func.MfProcessMaxfwdHeader c.in-MfProcessMaxfwdHeader.n) c.args.values.now c.mf_process_maxfwd_header.result (to_z-of_z w64 c.mf_process_maxfwd_header.result fits) c.args.facts.now c.mf_process_maxfwd_header.new.facts c.in-MfProcessMaxfwdHeader.is
+    coded_as (around_of c.args.lent.now) (received c.args.message.bytes.now c.args.message.message.now) c.args.function.now (func.MfProcessMaxfwdHeader c.in-MfProcessMaxfwdHeader.n) c.args.values.now c.mf_process_maxfwd_header.result (to_z-of_z w64 c.mf_process_maxfwd_header.result fits) c.code-in-MfProcessMaxfwdHeader.ensures c.args.facts.now c.mf_process_maxfwd_header.new.facts c.in-MfProcessMaxfwdHeader.is
     (c.mf_process_maxfwd_header.ensures c.args.message.bytes.now)
 
-pub returns-in_ok-code-in-RecordRoute-clause-row : goal.returns-in_ok-code-in-RecordRoute-clause-row
-returns-in_ok-code-in-RecordRoute-clause-row c =
-    let fits : SFits w64 c.in_ok-code-in-RecordRoute.code = search rules in
-    coded_as (around_of c.args.lent.now) (received c.args.message.bytes.now c.args.message.message.now) c.args.function.now func.RecordRoute c.args.values.now c.in_ok-code-in-RecordRoute.code (to_z-of_z w64 c.in_ok-code-in-RecordRoute.code fits) c.args.facts.now c.record_route.new.facts c.in-RecordRoute.is
-    (c.in_ok-code-in-RecordRoute.ensures.ok (around_of c.args.lent.now) c.args.message.bytes.now refl)
+pub returns-in_ok-record_route-in-RecordRoute-clause-row : goal.returns-in_ok-record_route-in-RecordRoute-clause-row
+returns-in_ok-record_route-in-RecordRoute-clause-row c =
+    let code = c.in_ok-record_route-in-RecordRoute.field-0 in
+    let fits : SFits w64 code = search rules in
+    coded_as (around_of c.args.lent.now) (received c.args.message.bytes.now c.args.message.message.now) c.args.function.now func.RecordRoute c.args.values.now code (to_z-of_z w64 code fits) c.code-in-RecordRoute.ensures c.args.facts.now c.record_route.new.facts c.in-RecordRoute.is
+    (c.in_ok-record_route-in-RecordRoute.ensures.ok (around_of c.args.lent.now) c.args.message.bytes.now refl)
 
 pub returns-in_ok-code-in-LooseRoute-clause-row : goal.returns-in_ok-code-in-LooseRoute-clause-row
 returns-in_ok-code-in-LooseRoute-clause-row c =
     let fits : SFits w64 c.in_ok-code-in-LooseRoute.code = search rules in
-    coded_as (around_of c.args.lent.now) (received c.args.message.bytes.now c.args.message.message.now) c.args.function.now func.LooseRoute c.args.values.now c.in_ok-code-in-LooseRoute.code (to_z-of_z w64 c.in_ok-code-in-LooseRoute.code fits) c.args.facts.now c.loose_route.new.facts c.in-LooseRoute.is
+    coded_as (around_of c.args.lent.now) (received c.args.message.bytes.now c.args.message.message.now) c.args.function.now func.LooseRoute c.args.values.now c.in_ok-code-in-LooseRoute.code (to_z-of_z w64 c.in_ok-code-in-LooseRoute.code fits) c.code-in-LooseRoute.ensures c.args.facts.now c.loose_route.new.facts c.in-LooseRoute.is
     (λ blocks. ap (λ p. loose_route (around p c.args.lent.now.settings.now (around_of c.args.lent.now).received) (received c.args.message.bytes.now c.args.message.message.now) (with_blocks c.args.facts.now blocks)) (ap (λ (l : FlatScript). l.parameters) (sym c.loaded.view_is)) ∙ c.in_ok-code-in-LooseRoute.ensures.ok blocks)
 
 pub returns-in-ShtRmNameRe-clause-row : goal.returns-in-ShtRmNameRe-clause-row

@@ -2,20 +2,21 @@ use Rattle.std.proofs.Common.{◌≡◌, ◌<◌, [], refl, sym, subst, ◌∙�
 use Rattle.dialogue.specs.Course.{Ends, Asks}
 use Rattle.script_vm.specs.Asking.{shown_ask}
 use Rattle.script_vm.specs.Measure.{work_left}
-use Rattle.host_meaning.specs.Run.{Tells}
+use Rattle.host_meaning.specs.Run.{Tells, Lacks}
 use Rattle.host_meaning.specs.Rows.{row}
 use Rattle.script_host.specs.declared.run.HostWent.TheVariants as went
 use Rattle.script_host.specs.Asking.{as_asked, as_heard}
 use Rattle.script_host.specs.Lending.{around_of, state_of}
 use Rattle.script_host.specs.Rows.{IsRow, left}
 use Rattle.script_host.specs.Running.{IsHostWent, OnAsks}
-use Rattle.script_host.proofs.Runs.{heard_at, told_at, goes_at, ends_at, short_at}
+use Rattle.script_host.proofs.Runs.{asks_on, still_ended, ends_again, never_lacks, heard_at, told_at, goes_at, ends_at, short_at}
 use Rattle.script_host.proofs.run.HostRun.advance.Goals as goal
 
 pub asks-init : goal.asks-init
 asks-init c = record {
   is = λ p next w. heard_at _ _ c.args.self.now next (as_heard c.args.answer) c.in-Ok.heard w (c.in-Ok.ensures.tells (state_of c.args.self.now.state));
   less = omega arith;
+  again = λ how h. refl;
   same = c.shop.view_is;
 }
 
@@ -31,6 +32,7 @@ asks-preserved c =
           (subst (λ q. row around q before ≡ Ends (Tells c.in-Ok-Tells.answer after)) c.asked-asked.ensures.shows
           (subst (λ r. IsRow (row around (shown_ask c.asked-asked.result) before) r after) c.in-Ok-Tells.field-0-is c.in-Ok-Tells.ensures.row));
       less = omega (arith, c.in-Asks.ensures.less, c.asks.invariant.less);
+      again = λ how h. asks_on c.advance.result (c.advance.ensures.again how (still_ended c.args.self.now c.asks.self how (c.asks.invariant.again how h) h)).0 c.in-Asks.is;
       same = c.advance.ensures.same ∙ c.asks.invariant.same;
     }
 
@@ -63,7 +65,29 @@ pub returns-in-Err-clause-same : goal.returns-in-Err-clause-same
 returns-in-Err-clause-same c = c.advance.ensures.same ∙ c.asks.invariant.same
 
 pub returns-in-Ended-clause-next : goal.returns-in-Ended-clause-next
-returns-in-Ended-clause-next c = λ p next w. ends_at _ _ c.asks.self.run c.asks.told _ _ (c.asks.invariant.is p next w) (c.in-Ended.ensures.next (c.asks.invariant.same ∙ p))
+returns-in-Ended-clause-next c = λ p next w.
+    subst (λ x. IsHostWent c.args.lent.now.loaded.now (around_of c.args.lent.now) (next (as_heard c.args.answer)) c.ends.new.self x) (sym c.ends.ensures.ended)
+    (subst (λ h. IsHostWent c.args.lent.now.loaded.now (around_of c.args.lent.now) (next (as_heard c.args.answer)) h went.Ended) (sym c.ends.ensures.new)
+    (ends_at _ _ c.asks.self.run c.asks.told (record c.asks.self { run = c.advance.new.self }) _ (c.asks.invariant.is p next w) (c.in-Ended.ensures.next (c.asks.invariant.same ∙ p))))
+
+pub returns-in-Ended-clause-less : goal.returns-in-Ended-clause-less
+returns-in-Ended-clause-less c = subst (λ x. OnAsks x (work_left c.args.lent.now.loaded.now c.ends.new.self.run < work_left c.args.lent.now.loaded.now c.args.self.now.run)) (sym c.ends.ensures.ended) tt
+
+pub returns-in-Ended-clause-again : goal.returns-in-Ended-clause-again
+returns-in-Ended-clause-again c = λ how h.
+    let same = c.asks.invariant.again how h in
+    let over = c.advance.ensures.again how (still_ended c.args.self.now c.asks.self how same h) in
+    (c.ends.ensures.ended, ends_again c.args.self.now c.asks.self c.ends.new.self c.advance.new.self how same h over.1 c.ends.ensures.new)
+
+pub returns-in_default-clause-again : goal.returns-in_default-clause-again
+returns-in_default-clause-again c = λ how h.
+    let lacks : left c.args.self.now.wait (state_of c.args.self.now.state) (as_heard c.args.answer) ≡ Ends (Lacks (state_of c.args.self.now.state)) =
+            c.in_default.ensures.lacks (state_of c.args.self.now.state) in
+    absurd (never_lacks c.args.self.now.wait _ _ h.1 lacks)
+
+pub returns-in-Ok-Asks-clause-again : goal.returns-in-Ok-Asks-clause-again
+returns-in-Ok-Asks-clause-again c = λ how h.
+    asks_on c.advance.result (c.advance.ensures.again how (still_ended c.args.self.now c.asks.self how (c.asks.invariant.again how h) h)).0 c.in-Asks.is
 
 pub returns-in-Ended-clause-same : goal.returns-in-Ended-clause-same
 returns-in-Ended-clause-same c = c.advance.ensures.same ∙ c.asks.invariant.same
