@@ -2,3 +2,4 @@ mod Runs
 mod Written
 mod Read
 mod Called
+mod HandedOn
