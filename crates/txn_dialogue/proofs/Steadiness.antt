@@ -1,6 +1,6 @@
 -- Steps that run no block are steady.
-use Rattle.std.proofs.Common.{◌≡◌, ℕ, zero, suc, Bool, true, false, not, List, [], ◌∷◌, ◌++◌, Option, Some, None, refl, sym, ap, ◌∙◌, subst}
-use Rattle.std.specs.Prelude.{if◌then◌else◌, nat_le, slice_get, ◌&&◌, ◌==◌, codes}
+use Rattle.std.proofs.Common.{◌≡◌, ℕ, zero, suc, Bool, true, false, not, List, [], ◌∷◌, ◌++◌, Option, Some, None, refl, sym, ◌∙◌, subst}
+use Rattle.std.specs.Prelude.{if◌then◌else◌, nat_le, slice_get, ◌==◌, codes}
 use Rattle.std.specs.Str.{bytes_eq}
 use Rattle.outside_ports.specs.declared.port.Addr.{Addr}
 use Rattle.claim_words.specs.declared.ClaimEnd.{ClaimEnd}
@@ -39,9 +39,9 @@ use Rattle.txn_dialogue.specs.Slots.{Proxy, TxnBranch, TxnState, Live, Seen, See
 use Rattle.txn_dialogue.specs.Timers.{timer_at}
 use Rattle.txn_dialogue.specs.Sends.{Sent, Work, sent_if, responded, server_step, cancel_ripe, cancelling_pending, settled, has_final, is_proceeding, cancelling, all_cancelling, client_step, at_branch}
 use Rattle.txn_dialogue.specs.Ending.{StepCourse, Done, leaves, gives, sending, after_send, closing, close_of, finish, is_over}
-use Rattle.txn_dialogue.specs.Rounds.{Best, made, best_response, best_sent_by, best_sent, failed_by, over, round_failed, counted}
-use Rattle.txn_dialogue.specs.Replies.{BranchReply, class_event, forwarded_now, forwarding_at, timed, to_cancel_client, stray, response_method, kept_for, kept_response, noted, forwarded_by, passed_up, listed, replying, came_up, to_client, to_branch, to_cancel_of, reply_by_code, reply_read, counts, counted_by, over_client}
-use Rattle.txn_dialogue.specs.Events.{work_on, cancelled, marked_cancelled, is_continued, cancel_claimed, cancel_heard, cancel_by, suspension_claimed, suspension_heard, suspension_fired, undue, unsuspended, client_fired, cancel_fired, invite_cancelling, final_fired, quit_fired, branch_fired, at_its_branch, fired, ack}
+use Rattle.txn_dialogue.specs.Rounds.{Best, made, best_response, best_sent_by, failed_by, over, round_failed, counted}
+use Rattle.txn_dialogue.specs.Replies.{BranchReply, class_event, forwarded_now, forwarding_at, timed, to_cancel_client, stray, response_method, kept_for, kept_response, noted, forwarded_by, listed, replying, came_up, to_client, to_branch, to_cancel_of, reply_by_code, reply_read, counts, counted_by, over_client}
+use Rattle.txn_dialogue.specs.Events.{work_on, cancelled, marked_cancelled, is_continued, cancel_claimed, cancel_heard, cancel_by, suspension_claimed, suspension_heard, suspension_fired, undue, unsuspended, client_fired, cancel_fired, invite_cancelling, final_fired, quit_fired, branch_fired, at_its_branch, fired}
 use Rattle.txn_dialogue.specs.Dialogue.{at_event, dialogue}
 use Rattle.txn_dialogue.specs.Steady.{Fits, Steady, IsHeldAck, HasNoReplyBlock, HasNoFailureBlock}
 

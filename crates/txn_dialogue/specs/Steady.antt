@@ -1,5 +1,5 @@
 -- What can be said of a step that runs no block.
-use Rattle.std.specs.Prelude.{◌≡◌, ℕ, Bool, false, List, Option, Some, None}
+use Rattle.std.specs.Prelude.{◌≡◌, ℕ, false, None}
 use Rattle.dialogue.specs.Course.{Ends, Asks, Takes}
 use Rattle.txn_server.specs.declared.machine.ServerEvent.TheVariants as server
 use Rattle.txn_server.specs.After.{server_after}
