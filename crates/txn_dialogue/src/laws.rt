@@ -18,10 +18,11 @@ ghost use Rattle.txn_dialogue.specs.Blocks.{Balanced, blocks_in, blocks_at, no_b
 ghost use Rattle.txn_dialogue.specs.Order.{SendsRead, SendsLast, IsInOrder, OrdersAtOnce};
 ghost use Rattle.txn_dialogue.specs.Shortage.{AbortsShort, is_aborted, is_loosely_aborted, was_short};
 ghost use Rattle.txn_dialogue.specs.Serving.{ServesOn, HasServed};
-ghost use Rattle.txn_dialogue.specs.Steady.{Steady, IsHeldAck, HasNoReplyBlock, HasNoFailureBlock};
+ghost use Rattle.txn_dialogue.specs.Steady.{TakesNothing, Steady, IsHeldAck, HasNoReplyBlock, HasNoFailureBlock};
 
 /// A step that runs no block takes no memory of its own, and whatever fitting answers it gets it isn't aborted: a retransmission, a
-/// cancellation, an ACK that isn't handed on, a timer without a failure block, and a response without a block for it.
+/// cancellation, an ACK that isn't handed on, a timer without a failure block to run, and a response without a block to run. So is every
+/// other step that takes no memory of its own.
 pub fn a_step_without_a_run_is_never_aborted()
     ensures copy { (p : Proxy) (seen : Seen) (generation now : ℕ) → Steady (dialogue p seen generation Copy now) }
     ensures cancel { (p : Proxy) (seen : Seen) (generation now : ℕ) → Steady (dialogue p seen generation Cancel now) }
@@ -32,6 +33,8 @@ pub fn a_step_without_a_run_is_never_aborted()
     ensures reply { (p : Proxy) (live : Live) (generation branch : ℕ) (text : List ℕ) (source : Addr) (now : ℕ)
         → HasNoReplyBlock p live → HasNoFailureBlock live
         → Steady (dialogue p (SeenLive live) generation (Reply branch text source) now) }
+    ensures runless { (p : Proxy) (seen : Seen) (generation : ℕ) (what : Event) (now : ℕ) → TakesNothing (dialogue p seen generation what now)
+        → Steady (dialogue p seen generation what now) }
 {}
 
 /// What a text reads as, as a function, is the message that it is.
