@@ -1,11 +1,17 @@
 -- What holds of all that is decided so far: each datagram reads, steps of its table lead to the server, and the transaction stays
 -- the same one.
-use Rattle.std.proofs.Common.{◌≡◌, ℕ, Bool, true, false, List, [], ◌∷◌, ◌++◌, Option, Some, None, refl}
+use Rattle.std.proofs.Common.{◌≡◌, ℕ, Bool, true, false, inl, inr, List, [], ◌∷◌, ◌++◌, Option, Some, None, refl, sym, subst, ◌∙◌}
+use Rattle.std.proofs.lemmas.Bool.{false≢true}
 use Rattle.std.specs.Prelude.{if◌then◌else◌, nat_le, slice_get, codes, ◌==◌}
 use Rattle.outside_ports.specs.declared.port.Addr.{Addr}
 use Rattle.txn_server.specs.declared.machine.Server.{Server}
 use Rattle.txn_server.specs.declared.machine.ServerEvent.{ServerEvent}
 use Rattle.txn_server.specs.declared.machine.ServerEvent.TheVariants as server
+use Rattle.txn_server.specs.declared.machine.ServerActs.{ServerActs}
+use Rattle.txn_server.specs.declared.machine.ServerState.{ServerState}
+use Rattle.txn_server.specs.declared.machine.ServerState.TheVariants as state
+use Rattle.txn_server.specs.Rows
+use Rattle.txn_server.specs.Rows.{ServerRow, ServerStep}
 use Rattle.txn_server.specs.After.{server_after}
 use Rattle.txn_server.proofs.Table.{after_step}
 use Rattle.txn_client.specs.declared.machine.ClientEvent.{ClientEvent}
@@ -19,15 +25,15 @@ use Rattle.host_meaning.specs.Run.{Received, is_readable}
 use Rattle.host_meaning.specs.Responses.{is_ack}
 use Rattle.host_meaning.specs.Relaying.{target_address, loose_ack}
 use Rattle.sip_build.specs.Addresses.{reply_address}
-use Rattle.txn_dialogue.specs.Slots.{Proxy, Origin, TxnBranch}
-use Rattle.txn_dialogue.specs.Sends.{Sent, Work, and_sent, sent_if, back_to, served, responding_if, responded, responding, made_text, all_responded, server_step, client_step, cancel_sends, cancel_ripe, cancelling, all_cancelling, cancelling_pending, owes_487, settled, is_ripe, at_branch, repeated_text}
+use Rattle.txn_dialogue.specs.Slots.{Proxy, Origin, TxnBranch, TxnState}
+use Rattle.txn_dialogue.specs.Sends.{Sent, Work, is_final_state, has_final, last_of, and_sent, sent_if, back_to, served, responding_if, responded, responding, made_text, all_responded, server_step, client_step, cancel_sends, cancel_ripe, cancelling, all_cancelling, cancelling_pending, owes_487, settled, is_ripe, at_branch, repeated_text}
 use Rattle.sip_build.specs.Hop.{cancel_text}
 use Rattle.txn_dialogue.specs.Rounds.{Launch, launched, code_sent, reason_sent, best_sent_by, is_success}
 use Rattle.txn_dialogue.specs.Replies.{kept_for, kept_response, forwarded_now}
 use Rattle.txn_dialogue.specs.Runs.{around_of}
 use Rattle.txn_dialogue.specs.LooseRuns.{all_sent, ack_sent_to, outcome_sent, loose_response, loose_responses, loosely_sent}
 use Rattle.txn_dialogue.specs.Events.{invite_cancelling}
-use Rattle.txn_dialogue.specs.Serving.{IsReached}
+use Rattle.txn_dialogue.specs.Serving.{IsReached, IsServed}
 
 -- ---- datagrams
 
@@ -67,11 +73,54 @@ served_on : (start s : Server) → IsReached start s → (b : Bool) (event : Ser
 served_on start s r true event now = reached_on start s r event now
 served_on start s r false event now = r
 
+-- a final response stays decided
+early : (s : Server) (st : ServerState) → s.state ≡ st → is_final_state st ≡ false → is_final_state s.state ≡ true → ⊥
+early s st e n f = false≢true (sym n ∙ subst (λ x. is_final_state x ≡ true) e f)
+
+row_final : (old : Server) (now : ℕ) (event : ServerEvent) (new : Server) (acts : ServerActs) → ServerRow old now event new acts
+    → is_final_state old.state ≡ true → is_final_state new.state ≡ true
+row_final old now _ _ _ (Rows.proceeding_copy here said) f = f
+row_final old now _ _ _ (Rows.proceeding_1xx code is here) f = absurd (early old state.Proceeding here.1 refl f)
+row_final old now _ _ _ (Rows.proceeding_2xx code is here) f = refl
+row_final old now _ _ _ (Rows.proceeding_failure code is here) f = refl
+row_final old now _ _ _ (Rows.completed_copy here) f = f
+row_final old now _ _ _ (Rows.completed_g here due) f = f
+row_final old now _ _ _ (Rows.completed_ack here) f = refl
+row_final old now _ _ _ (Rows.completed_h here due) f = refl
+row_final old now _ _ _ (Rows.confirmed_i here due) f = refl
+row_final old now _ _ _ (Rows.late_2xx code is here) f = f
+row_final old now _ _ _ (Rows.accepted_2xx code is here) f = f
+row_final old now _ _ _ (Rows.accepted_ack here) f = f
+row_final old now _ _ _ (Rows.accepted_l here due) f = refl
+row_final old now _ _ _ (Rows.open_1xx code is (inl here)) f = absurd (early old state.Trying here.1 refl f)
+row_final old now _ _ _ (Rows.open_1xx code is (inr here)) f = absurd (early old state.Proceeding here.1 refl f)
+row_final old now _ _ _ (Rows.open_final code is here) f = refl
+row_final old now _ _ _ (Rows.answered_copy here) f = f
+row_final old now _ _ _ (Rows.completed_j here due) f = refl
+
+step_final : (old : Server) (now : ℕ) (event : ServerEvent) (new : Server) (acts : ServerActs) → ServerStep old event now new acts
+    → is_final_state old.state ≡ true → is_final_state new.state ≡ true
+step_final old now event new acts (inl row) f = row_final old now event new acts row f
+step_final old now event new acts (inr (none, e, a)) f = subst (λ (x : Server). is_final_state x.state ≡ true) (sym e) f
+
+final_stays : (s : Server) (event : ServerEvent) (now : ℕ) → is_final_state s.state ≡ true → is_final_state (server_after s event now).0.state ≡ true
+final_stays s event now f =
+    step_final s now event (server_after s event now).0 (server_after s event now).1 (after_step s now event (server_after s event now).0 (server_after s event now).1 refl) f
+
+served_final : (b : Bool) (s : Server) (event : ServerEvent) (now : ℕ) → is_final_state s.state ≡ true → is_final_state (served b s event now).0.state ≡ true
+served_final true s event now f = final_stays s event now f
+served_final false s event now f = f
+
+last_stays : (send final : Bool) (text : List ℕ) (last : Option (List ℕ)) → final ≡ true → last_of send final text last ≡ last
+last_stays true true text last e = refl
+last_stays true false text last e = absurd (false≢true e)
+last_stays false final text last e = refl
+
 -- ---- all of it
 
-module _ (o : Origin) (start : Server) (n : ℕ) where
+module _ (o : Origin) (start : TxnState) (n : ℕ) where
   abbrev pub Sound : Work → Type 0
-  Sound w = AllRead w.sends × IsReached start w.state.server × IsReached start w.base.server × (w.origin ≡ o) × (w.blocks ≡ n)
+  Sound w = AllRead w.sends × IsServed start w.state × IsServed start w.base × (w.origin ≡ o) × (w.blocks ≡ n)
 
   pub if_sound : (b : Bool) (x y : Work) → Sound x → Sound y → Sound (if b then x else y)
   if_sound true x y p q = p
@@ -80,7 +129,9 @@ module _ (o : Origin) (start : Server) (n : ℕ) where
   pub responding_sound : (b : Bool) (code : ℕ) (text : List ℕ) (w : Work) → Sound w → Sound (responding_if b code text w)
   responding_sound b code text w p = (
     sent_if_reads (served b w.state.server (server.Send code) w.now).1.send (back_to w.origin) text None w.sends p.0,
-    served_on start w.state.server p.1 b (server.Send code) w.now,
+    (served_on start.server w.state.server p.1.0 b (server.Send code) w.now,
+    λ f. (served_final b w.state.server (server.Send code) w.now (p.1.1 f).0,
+    last_stays (served b w.state.server (server.Send code) w.now).1.send (has_final w.state) text w.state.last (p.1.1 f).0 ∙ (p.1.1 f).1)),
     p.2,
     p.3,
     p.4,
@@ -99,7 +150,7 @@ module _ (o : Origin) (start : Server) (n : ℕ) where
   pub server_step_sound : (event : ServerEvent) (w : Work) → Sound w → Sound (server_step event w)
   server_step_sound event w p = (
     sent_if_reads (server_after w.state.server event w.now).1.repeat (back_to w.origin) (repeated_text w.state.last) None w.sends p.0,
-    reached_on start w.state.server p.1 event w.now,
+    (reached_on start.server w.state.server p.1.0 event w.now, λ f. (final_stays w.state.server event w.now (p.1.1 f).0, (p.1.1 f).1)),
     p.2,
     p.3,
     p.4,

@@ -55,7 +55,7 @@ use Rattle.txn_dialogue.specs.LooseRuns.{loose_facts, loose_mark, takes_nothing,
 use Rattle.txn_dialogue.specs.Events.{silent, after_silence, loosely_responded, after_request_by, after_request, request_ran, unavailable, ack, unsuspended, cancelled, marked_cancelled, is_continued, cancel_claimed, cancel_heard, cancel_by, suspension_claimed, suspension_heard, suspension_fired, undue, client_fired, cancel_fired, invite_cancelling, final_fired, quit_fired, branch_fired, at_its_branch, fired}
 use Rattle.txn_dialogue.specs.Blocks.{blocks_in, blocks_at}
 use Rattle.txn_dialogue.specs.Order.{Phase, Deciding, Sending, GivingBack, Leaving, Freed, EndsAt}
-use Rattle.txn_dialogue.specs.Serving.{IsReached}
+use Rattle.txn_dialogue.specs.Serving.{IsServed}
 use Rattle.txn_dialogue.specs.Shortage.{is_aborted}
 use Rattle.txn_dialogue.proofs.Watched.{Mood, mood, after, Watched, watched_then}
 use Rattle.txn_dialogue.proofs.Rows.{run_fine, host_end}
@@ -82,10 +82,10 @@ abbrev staying : Bool → ℕ → ℕ
 staying true n = n
 staying false n = 0
 
-module _ (o : Origin) (start : Server) where
+module _ (o : Origin) (start : TxnState) where
   abbrev pub IsLeft : Seen → Type 0
   IsLeft (SeenVacant generation) = generation ≡ o.generation + 1
-  IsLeft (SeenLive live) = (live.origin ≡ o) × IsReached start live.state.server
+  IsLeft (SeenLive live) = (live.origin ≡ o) × IsServed start live.state
 
   abbrev pub fin : StepEnd → Mood → Type 0
   fin end m = (blocks_at end ≡ m.blocks) × (m.won ≡ None) × EndsAt m.phase (slot_of end) × IsLeft (slot_of end) × (is_aborted end ≡ true → m.short ≡ true)
@@ -114,7 +114,7 @@ module _ (o : Origin) (start : Server) where
   ends_fine short (Some mark) i phase slot n e a l = (e, refl, a, l, λ q. absurd (false≢true q))
 
   leaves_so : (short : Bool) (phase : Phase) → IsOpen phase → (stays : Bool) (c : Close) → IsMarked c.mark short → (s : TxnState) (n : ℕ)
-      → staying stays c.blocks ≡ n → c.origin ≡ o → IsReached start s.server
+      → staying stays c.blocks ≡ n → c.origin ≡ o → IsServed start s
       → Watched fin (if stays
       then Asks (ask.Due (due_of c.mark c.now s)) (λ h. Ends (end_of c.mark (SeenLive (record { origin = c.origin; state = s; blocks = c.blocks }))))
       else Asks (ask.Due None) (λ h. Asks ask.Free (λ h. Ends (end_of c.mark (SeenVacant (c.origin.generation + 1)))))) (at short phase n)
@@ -167,7 +167,7 @@ module _ (o : Origin) (start : Server) where
   gives_fine short (suc k) n Freed q c p = absurd q
 
   sending_fine : (short : Bool) (now : ℕ) (ds : List Sent) (s : TxnState) (n : ℕ) (next : TxnState → StepCourse) (phase : Phase) → MaySend phase → AllRead ds
-      → IsReached start s.server → ((t : TxnState) (p : Phase) → IsOpen p → IsReached start t.server → Watched fin (next t) (at short p n))
+      → IsServed start s → ((t : TxnState) (p : Phase) → IsOpen p → IsServed start t → Watched fin (next t) (at short p n))
       → Watched fin (sending now ds s next) (at short phase n)
   sending_fine short now [] s n next Deciding q a r p = p s Deciding tt r
   sending_fine short now [] s n next Sending q a r p = p s Sending tt r
@@ -178,7 +178,7 @@ module _ (o : Origin) (start : Server) where
       ((tt, tt, a.0, tt, refl), λ h. sending_fine short now ds (after_send now d h s) n next Sending tt a.1 r p)
   sending_fine short now (d ∷ ds) s n next phase q a r p = absurd q
 
-  closing_fine : (short : Bool) (c : Close) → IsMarked c.mark short → (n : ℕ) → AllRead c.sends → IsReached start c.state.server → c.origin ≡ o
+  closing_fine : (short : Bool) (c : Close) → IsMarked c.mark short → (n : ℕ) → AllRead c.sends → IsServed start c.state → c.origin ≡ o
       → staying c.stays c.blocks + c.back ≡ n → Watched fin (closing c) (mood false short n)
   closing_fine short c i n a r g e =
       subst (λ (j : ℕ). Watched fin (closing c) (mood false short j)) e
@@ -242,7 +242,7 @@ module _ (o : Origin) (start : Server) where
       (mood false false (n + 0)) (run_fine false false n p.script block (around_of p r) (inl refl) (beginning f)))
 
   -- a block's state, its AVPs, or nothing of it is taken over
-  adds : (n : ℕ) (w : Work) (x : Work) (s : RunState) → Sound o start n w → AllRead x.sends → IsReached start x.state.server → IsReached start x.base.server
+  adds : (n : ℕ) (w : Work) (x : Work) (s : RunState) → Sound o start n w → AllRead x.sends → IsServed start x.state → IsServed start x.base
       → x.origin ≡ w.origin → x.blocks ≡ w.blocks + s.blocks → Sound o start (n + s.blocks) x
   adds n w x s p a r b g e = (a, r, b, g ∙ p.3, e ∙ ap (λ (j : ℕ). j + s.blocks) p.4)
 

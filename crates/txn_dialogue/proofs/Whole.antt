@@ -23,7 +23,7 @@ use Rattle.txn_dialogue.specs.declared.mark.Cause.TheVariants as cause
 use Rattle.txn_dialogue.specs.declared.happening.Happening.{Happening}
 use Rattle.txn_dialogue.specs.declared.happening.Happening.TheVariants.{Request, Copy, Ack, Reply, Timer, Continue, Cancel}
 use Rattle.txn_dialogue.specs.declared.entry.Entry.{Entry}
-use Rattle.txn_dialogue.specs.Slots.{Proxy, Origin, Live, Seen, SeenVacant, SeenLive, generation_of, reading}
+use Rattle.txn_dialogue.specs.Slots.{Proxy, Origin, TxnState, first_state, Live, Seen, SeenVacant, SeenLive, generation_of, reading}
 use Rattle.txn_dialogue.specs.Timers.{timer_at}
 use Rattle.txn_dialogue.specs.Sends.{server_step}
 use Rattle.txn_dialogue.specs.Ending.{StepEnd, Done, StepCourse, slot_of, end_of}
@@ -35,50 +35,53 @@ use Rattle.txn_dialogue.specs.Entries.{StepItem, IsStep, Replays}
 use Rattle.txn_dialogue.specs.Blocks.{blocks_after, HasToGive, Balanced, blocks_in, blocks_at, blocks_taken, blocks_given}
 use Rattle.txn_dialogue.specs.Order.{SendsRead, SendsLast, IsIdle, IsInOrder, OrdersAtOnce}
 use Rattle.txn_dialogue.specs.Shortage.{fits_ask, short_after, AbortsShort, is_aborted, was_short}
-use Rattle.txn_dialogue.specs.Serving.{Leads, IsReached, IsServedOn, ServesOn, HasServed}
+use Rattle.txn_dialogue.specs.Serving.{Leads, IsReached, IsServed, IsServedOn, ServesOn, HasServed}
 use Rattle.txn_dialogue.proofs.Watched.{Mood, mood, after, shorted, Watched, aborts_short, balanced, sends_read, orders_at_once, sends_last, in_order}
 use Rattle.txn_dialogue.proofs.Sound.{Sound, server_step_sound}
 use Rattle.txn_dialogue.proofs.Steps.{IsLeft, fin, Fine, finish_fine, short_outside_fine, request_ran_fine, unavailable_fine, reply_fine, ack_fine, cancel_fine, fired_fine}
 
 -- a slot's transaction, and the server that it begins with
-abbrev Begins : Seen → Origin → Server → Type 0
-Begins (SeenVacant generation) o start = (o.generation ≡ generation) × (start ≡ new_server (is_invite o.request))
-Begins (SeenLive live) o start = (live.origin ≡ o) × (live.state.server ≡ start)
+abbrev Begins : Seen → Origin → TxnState → Type 0
+Begins (SeenVacant generation) o start = (o.generation ≡ generation) × (start.server ≡ new_server (is_invite o.request))
+Begins (SeenLive live) o start = (live.origin ≡ o) × (live.state ≡ start)
 
 abbrev Whole : Seen → StepCourse → Type 0
-Whole seen c = IsIdle seen c ⊎ ((o : Origin) × (start : Server) × Begins seen o start × Fine o start c (blocks_in seen))
+Whole seen c = IsIdle seen c ⊎ ((o : Origin) × (start : TxnState) × Begins seen o start × Fine o start c (blocks_in seen))
 
-live_whole : (live : Live) (c : StepCourse) → Fine live.origin live.state.server c live.blocks → Whole (SeenLive live) c
-live_whole live c p = inr (live.origin, live.state.server, (refl, refl), p)
+unserved : (s : TxnState) → IsServed s s
+unserved s = (([], refl), λ f. (f, refl))
+
+live_whole : (live : Live) (c : StepCourse) → Fine live.origin live.state c live.blocks → Whole (SeenLive live) c
+live_whole live c p = inr (live.origin, live.state, (refl, refl), p)
 
 idle : (seen : Seen) (mark : Mark) → Whole seen (Ends (Done seen mark))
 idle seen mark = inl (mark, refl)
 
-begun : (live : Live) (now : ℕ) → Sound live.origin live.state.server live.blocks (work_on live now)
-begun live now = (tt, ([], refl), ([], refl), refl, refl)
+begun : (live : Live) (now : ℕ) → Sound live.origin live.state live.blocks (work_on live now)
+begun live now = (tt, unserved live.state, unserved live.state, refl, refl)
 
 -- ---- a first request
 
-opened : (p : Proxy) (o : Origin) (n now : ℕ) → Sound o (new_server (is_invite o.request)) n (first_work p o n now)
-opened p o n now = (tt, ([], refl), ([], refl), refl, refl)
+opened : (p : Proxy) (o : Origin) (n now : ℕ) → Sound o (first_state p o.request) n (first_work p o n now)
+opened p o n now = (tt, unserved (first_state p o.request), unserved (first_state p o.request), refl, refl)
 
 second_fine : (p : Proxy) (o : Origin) (now : ℕ) (h : Heard)
-    → Watched (fin o (new_server (is_invite o.request))) (second_block p o now h) (after ask.Block h (mood false false 1))
-second_fine p o now (heard.Block true) = request_ran_fine o (new_server (is_invite o.request)) 2 p p.script.request (first_work p o 2 now) (opened p o 2 now)
-second_fine p o now (heard.Block false) = unavailable_fine o (new_server (is_invite o.request)) 1 (first_work p o 1 now) (opened p o 1 now)
-second_fine p o now h = short_outside_fine o (new_server (is_invite o.request)) 1 (first_work p o 1 now) (opened p o 1 now)
+    → Watched (fin o (first_state p o.request)) (second_block p o now h) (after ask.Block h (mood false false 1))
+second_fine p o now (heard.Block true) = request_ran_fine o (first_state p o.request) 2 p p.script.request (first_work p o 2 now) (opened p o 2 now)
+second_fine p o now (heard.Block false) = unavailable_fine o (first_state p o.request) 1 (first_work p o 1 now) (opened p o 1 now)
+second_fine p o now h = short_outside_fine o (first_state p o.request) 1 (first_work p o 1 now) (opened p o 1 now)
 
 first_fine : (p : Proxy) (o : Origin) (now : ℕ) (h : Heard)
-    → Watched (fin o (new_server (is_invite o.request))) (first_block p o now h) (after ask.Block h (mood false false 0))
+    → Watched (fin o (first_state p o.request)) (first_block p o now h) (after ask.Block h (mood false false 0))
 first_fine p o now (heard.Block true) = ((refl, tt, tt, tt, refl), λ h. second_fine p o now h)
-first_fine p o now (heard.Block false) = unavailable_fine o (new_server (is_invite o.request)) 0 (first_work p o 0 now) (opened p o 0 now)
-first_fine p o now h = short_outside_fine o (new_server (is_invite o.request)) 0 (first_work p o 0 now) (opened p o 0 now)
+first_fine p o now (heard.Block false) = unavailable_fine o (first_state p o.request) 0 (first_work p o 0 now) (opened p o 0 now)
+first_fine p o now h = short_outside_fine o (first_state p o.request) 0 (first_work p o 0 now) (opened p o 0 now)
 
 opening_whole : (p : Proxy) (generation : ℕ) (r : Option Received) (source : Addr) (now : ℕ) → Whole (SeenVacant generation) (opening p generation r source now)
 opening_whole p generation None source now = idle (SeenVacant generation) Handled
 opening_whole p generation (Some r) source now =
     let o : Origin = record { generation = generation; request = r; source = source } in
-    inr (o, new_server (is_invite r), (refl, refl), ((refl, tt, tt, tt, refl), λ h. first_fine p o now h))
+    inr (o, first_state p r, (refl, refl), ((refl, tt, tt, tt, refl), λ h. first_fine p o now h))
 
 -- ---- every event
 
@@ -91,14 +94,14 @@ continue_whole p serial route live None now = idle (SeenLive live) Handled
 continue_whole p serial route live (Some waits) now =
     if_whole (SeenLive live) (waits == serial) (request_ran p route (continuing (unsuspended (work_on live now)))) (Ends (Done (SeenLive live) Handled))
     (live_whole live (request_ran p route (continuing (unsuspended (work_on live now))))
-    (request_ran_fine live.origin live.state.server live.blocks p route (continuing (unsuspended (work_on live now))) (begun live now)))
+    (request_ran_fine live.origin live.state live.blocks p route (continuing (unsuspended (work_on live now))) (begun live now)))
     (idle (SeenLive live) Handled)
 
 copy_whole : (live : Live) (now : ℕ) → Whole (SeenLive live) (copy (work_on live now))
 copy_whole live now =
     live_whole live (copy (work_on live now))
-    (finish_fine live.origin live.state.server live.blocks Handled (server_step server.Copy (work_on live now))
-    (server_step_sound live.origin live.state.server live.blocks server.Copy (work_on live now) (begun live now)))
+    (finish_fine live.origin live.state live.blocks Handled (server_step server.Copy (work_on live now))
+    (server_step_sound live.origin live.state live.blocks server.Copy (work_on live now) (begun live now)))
 
 event_whole : (p : Proxy) (seen : Seen) (what : Happening) (now : ℕ) → Whole seen (at_event p seen what now)
 event_whole p (SeenVacant generation) (Request text source) now = opening_whole p generation (reading text) source now
@@ -111,17 +114,17 @@ event_whole p (SeenVacant generation) Cancel now = idle (SeenVacant generation) 
 event_whole p (SeenLive live) (Request text source) now = copy_whole live now
 event_whole p (SeenLive live) Copy now = copy_whole live now
 event_whole p (SeenLive live) (Ack text source) now =
-    live_whole live (ack p text source (work_on live now)) (ack_fine live.origin live.state.server live.blocks p text source (work_on live now) (begun live now))
+    live_whole live (ack p text source (work_on live now)) (ack_fine live.origin live.state live.blocks p text source (work_on live now) (begun live now))
 event_whole p (SeenLive live) (Reply branch text source) now =
     live_whole live (reply p branch text source (work_on live now))
-    (reply_fine live.origin live.state.server live.blocks p branch (reading text) source (work_on live now) (begun live now))
+    (reply_fine live.origin live.state live.blocks p branch (reading text) source (work_on live now) (begun live now))
 event_whole p (SeenLive live) Timer now =
     live_whole live (timer p (work_on live now))
-    (fired_fine live.origin live.state.server live.blocks p (timer_at now live.state) (work_on live now) (begun live now))
+    (fired_fine live.origin live.state live.blocks p (timer_at now live.state) (work_on live now) (begun live now))
 event_whole p (SeenLive live) (Continue serial route) now = continue_whole p serial route live live.state.suspension now
 event_whole p (SeenLive live) Cancel now =
     live_whole live (cancel_by p live.state.suspension (work_on live now))
-    (cancel_fine live.origin live.state.server live.blocks p live.state.suspension (work_on live now) (begun live now))
+    (cancel_fine live.origin live.state live.blocks p live.state.suspension (work_on live now) (begun live now))
 
 pub step_whole : (p : Proxy) (seen : Seen) (generation : ℕ) (what : Happening) (now : ℕ) → Whole seen (dialogue p seen generation what now)
 step_whole p seen generation what now =
@@ -214,23 +217,22 @@ sums (Takes short on) n b (Short ∷ items) end (inr comes) = sums on n b.1 (Sho
 
 -- ---- the server
 
-served_so : (o : Origin) (start : Server) (seen slot : Seen) → Begins seen o start → IsLeft o start slot → IsServedOn seen slot
+served_so : (o : Origin) (start : TxnState) (seen slot : Seen) → Begins seen o start → IsLeft o start slot → IsServedOn seen slot
 served_so o start (SeenVacant before) (SeenVacant generation) b l = inr (l ∙ ap (λ (n : ℕ). n + 1) b.0)
-served_so o start (SeenVacant before) (SeenLive live) b l = (
-  ap (λ (x : Origin). x.generation) l.0 ∙ b.0,
-  subst (λ (s : Server). IsReached s live.state.server) (b.1 ∙ ap (λ (x : Origin). new_server (is_invite x.request)) (sym l.0)) l.1,
-)
+served_so o start (SeenVacant before) (SeenLive live) b l =
+    (ap (λ (x : Origin). x.generation) l.0 ∙ b.0,
+    subst (λ (s : Server). IsReached s live.state.server) (b.1 ∙ ap (λ (x : Origin). new_server (is_invite x.request)) (sym l.0)) l.1.0)
 served_so o start (SeenLive before) (SeenVacant generation) b l = l ∙ ap (λ (x : Origin). x.generation + 1) (sym b.0)
-served_so o start (SeenLive before) (SeenLive live) b l = (l.0 ∙ sym b.0, subst (λ (s : Server). IsReached s live.state.server) (sym b.1) l.1)
+served_so o start (SeenLive before) (SeenLive live) b l = (l.0 ∙ sym b.0, subst (λ (s : TxnState). IsServed s live.state) (sym b.1) l.1)
 
-serves : (o : Origin) (start : Server) (seen : Seen) → Begins seen o start → (c : StepCourse) (m : Mood) → Watched (fin o start) c m → ServesOn seen c
+serves : (o : Origin) (start : TxnState) (seen : Seen) → Begins seen o start → (c : StepCourse) (m : Mood) → Watched (fin o start) c m → ServesOn seen c
 serves o start seen b (Ends end) m w = served_so o start seen (slot_of end) b w.3
 serves o start seen b (Asks a next) m w = λ h. serves o start seen b (next h) (after a h m) (w.1 h)
 serves o start seen b (Takes short on) m w = (serves o start seen b short (shorted m) w.1, serves o start seen b on m w.2)
 
 stays : (seen : Seen) → IsServedOn seen seen
 stays (SeenVacant generation) = inl refl
-stays (SeenLive live) = (refl, ([], refl))
+stays (SeenLive live) = (refl, unserved live.state)
 
 pub whole_serves : (seen : Seen) (c : StepCourse) → Whole seen c → ServesOn seen c
 whole_serves seen c (inl i) = by_idle (ServesOn seen) seen c (λ mark. stays seen) i
@@ -263,9 +265,9 @@ served_after seen (SeenVacant generation) h s = tt
 served_after (SeenVacant before) (SeenLive live) h s =
     with_sent live (s.1.0 ++ []) (run_on (is_invite live.origin.request) [] (new_server (is_invite live.origin.request)) Runs.begins s.1.0 live.state.server s.1.1)
 served_after (SeenLive before) (SeenLive live) h s =
-    with_sent live (s.1.0 ++ h.0)
+    with_sent live (s.1.0.0 ++ h.0)
     (run_on (is_invite live.origin.request) h.0 before.state.server
-    (subst (λ (x : Origin). ServerRun (is_invite x.request) h.0 before.state.server) (sym s.0) h.1) s.1.0 live.state.server s.1.1)
+    (subst (λ (x : Origin). ServerRun (is_invite x.request) h.0 before.state.server) (sym s.0) h.1) s.1.0.0 live.state.server s.1.0.1)
 
 slot_at : (mark : Option Mark) (seen : Seen) → slot_of (end_of mark seen) ≡ seen
 slot_at None seen = refl

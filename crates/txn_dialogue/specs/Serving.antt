@@ -1,12 +1,13 @@
 -- The server of a slot, over the slot's history.
-use Rattle.std.specs.Prelude.{◌≡◌, ◌+◌, ◌⊎◌, List, [], ◌∷◌}
+use Rattle.std.specs.Prelude.{◌≡◌, ℕ, ◌+◌, ◌⊎◌, true, List, [], ◌∷◌}
 use Rattle.dialogue.specs.Course.{Ends, Asks, Takes}
 use Rattle.txn_server.specs.declared.machine.Server.{Server}
 use Rattle.txn_server.specs.Rows.{ServerStep, new_server}
 use Rattle.txn_server.specs.Runs.{MadeServerStep, ServerRun, HasSent, codes_sent}
 use Rattle.host_meaning.specs.declared.ask.Heard.{Heard}
 use Rattle.host_meaning.specs.Transactions.{is_invite}
-use Rattle.txn_dialogue.specs.Slots.{Seen, SeenVacant, SeenLive}
+use Rattle.txn_dialogue.specs.Slots.{TxnState, Seen, SeenVacant, SeenLive}
+use Rattle.txn_dialogue.specs.Sends.{has_final}
 use Rattle.txn_dialogue.specs.Ending.{StepCourse, slot_of}
 
 -- these steps of a server, the latest first, lead from the first one to this one
@@ -17,14 +18,19 @@ Leads start (t ∷ before) s = Leads start before t.old × ServerStep t.old t.ev
 abbrev pub IsReached : Server → Server → Type 0
 IsReached start s = (steps : List MadeServerStep) × Leads start steps s
 
--- What a step makes of a slot: a transaction stays the same one, and steps of its server's table lead to its server, or from a new
--- server where the transaction has just come; a slot that goes vacant has the next generation.
+-- Steps of its table lead from the server of one state to that of another; and once a final response was decided it stays decided, and
+-- the response that is repeated stays the same one.
+abbrev pub IsServed : TxnState → TxnState → Type 0
+IsServed before s = IsReached before.server s.server × (has_final before ≡ true → (has_final s ≡ true) × (s.last ≡ before.last))
+
+-- What a step makes of a slot: a transaction stays the same one and its server goes on by its table, or from a new server where the
+-- transaction has just come; a slot that goes vacant has the next generation.
 abbrev pub IsServedOn : Seen → Seen → Type 0
 IsServedOn (SeenVacant before) (SeenVacant generation) = (generation ≡ before) ⊎ (generation ≡ before + 1)
 IsServedOn (SeenVacant before) (SeenLive live) =
     (live.origin.generation ≡ before) × IsReached (new_server (is_invite live.origin.request)) live.state.server
 IsServedOn (SeenLive before) (SeenVacant generation) = generation ≡ before.origin.generation + 1
-IsServedOn (SeenLive before) (SeenLive live) = (live.origin ≡ before.origin) × IsReached before.state.server live.state.server
+IsServedOn (SeenLive before) (SeenLive live) = (live.origin ≡ before.origin) × IsServed before.state live.state
 
 -- so at each end of a step
 abbrev pub ServesOn : Seen → StepCourse → Type 0

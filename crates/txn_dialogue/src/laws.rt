@@ -10,6 +10,9 @@ ghost use Rattle.txn_dialogue.specs.declared.entry.IndexHeard.{IndexHeard as Fou
 ghost use Rattle.txn_dialogue.specs.declared.happening.Happening.{Happening as Event};
 ghost use Rattle.txn_dialogue.specs.declared.happening.Happening.TheVariants.{Copy, Ack, Reply, Timer, Cancel};
 ghost use Rattle.txn_dialogue.specs.Slots.{Proxy, Live, Seen, SeenLive, reading};
+ghost use Rattle.txn_server.specs.declared.machine.ServerEvent.TheVariants.{Send};
+ghost use Rattle.txn_server.specs.After.{server_after};
+ghost use Rattle.txn_dialogue.specs.Sends.{Work, sent_if, back_to, responding};
 ghost use Rattle.txn_dialogue.specs.Dialogue.{dialogue};
 ghost use Rattle.txn_dialogue.specs.Ending.{StepEnd, Aborted};
 ghost use Rattle.txn_dialogue.specs.Loose.{Handling, Handles, LooseAborted, loose_dialogue};
@@ -90,9 +93,12 @@ pub fn a_continuation_is_ordered_at_once()
     ensures loose { (p : Proxy) (source : Addr) (handling : Handling) → OrdersAtOnce (loose_dialogue p source handling) None }
 {}
 
-/// A transaction's server decides at most one final response, and after it 2xx to an INVITE alone: in each step the server goes on by
-/// its table, and the server of a slot is one that its table leads to from a new one.
+/// A transaction's server decides at most one final response, and after it 2xx to an INVITE alone: a response is decided by a step of its
+/// table; in each step of the slot the server goes on by its table, and the response that is repeated stays the same one once a final one
+/// was decided; so the server of a slot is one that its table leads to from a new one.
 pub fn a_server_decides_one_final_response()
+    ensures response { (code : ℕ) (text : List ℕ) (w : Work) → (responding code text w).sends
+        ≡ sent_if (server_after w.state.server (Send code) w.now).1.send (back_to w.origin) text None w.sends }
     ensures step { (p : Proxy) (seen : Seen) (generation : ℕ) (what : Event) (now : ℕ) → ServesOn seen (dialogue p seen generation what now) }
     ensures history { (p : Proxy) (entries : List Recorded) (seen : Seen) (latest : ℕ) → Replays p entries seen latest → HasServed seen }
 {}
