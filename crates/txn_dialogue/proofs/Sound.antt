@@ -129,9 +129,13 @@ module _ (o : Origin) (start : TxnState) (n : ℕ) where
   pub responding_sound : (b : Bool) (code : ℕ) (text : List ℕ) (w : Work) → Sound w → Sound (responding_if b code text w)
   responding_sound b code text w p = (
     sent_if_reads (served b w.state.server (server.Send code) w.now).1.send (back_to w.origin) text None w.sends p.0,
-    (served_on start.server w.state.server p.1.0 b (server.Send code) w.now,
-    λ f. (served_final b w.state.server (server.Send code) w.now (p.1.1 f).0,
-    last_stays (served b w.state.server (server.Send code) w.now).1.send (has_final w.state) text w.state.last (p.1.1 f).0 ∙ (p.1.1 f).1)),
+    (
+      served_on start.server w.state.server p.1.0 b (server.Send code) w.now,
+      λ f. (
+        served_final b w.state.server (server.Send code) w.now (p.1.1 f).0,
+        last_stays (served b w.state.server (server.Send code) w.now).1.send (has_final w.state) text w.state.last (p.1.1 f).0 ∙ (p.1.1 f).1,
+      ),
+    ),
     p.2,
     p.3,
     p.4,

@@ -219,9 +219,10 @@ sums (Takes short on) n b (Short ∷ items) end (inr comes) = sums on n b.1 (Sho
 
 served_so : (o : Origin) (start : TxnState) (seen slot : Seen) → Begins seen o start → IsLeft o start slot → IsServedOn seen slot
 served_so o start (SeenVacant before) (SeenVacant generation) b l = inr (l ∙ ap (λ (n : ℕ). n + 1) b.0)
-served_so o start (SeenVacant before) (SeenLive live) b l =
-    (ap (λ (x : Origin). x.generation) l.0 ∙ b.0,
-    subst (λ (s : Server). IsReached s live.state.server) (b.1 ∙ ap (λ (x : Origin). new_server (is_invite x.request)) (sym l.0)) l.1.0)
+served_so o start (SeenVacant before) (SeenLive live) b l = (
+  ap (λ (x : Origin). x.generation) l.0 ∙ b.0,
+  subst (λ (s : Server). IsReached s live.state.server) (b.1 ∙ ap (λ (x : Origin). new_server (is_invite x.request)) (sym l.0)) l.1.0,
+)
 served_so o start (SeenLive before) (SeenVacant generation) b l = l ∙ ap (λ (x : Origin). x.generation + 1) (sym b.0)
 served_so o start (SeenLive before) (SeenLive live) b l = (l.0 ∙ sym b.0, subst (λ (s : TxnState). IsServed s live.state) (sym b.1) l.1)
 

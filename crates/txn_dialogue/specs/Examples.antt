@@ -25,6 +25,7 @@ use Rattle.txn_dialogue.specs.Sends.{Work}
 use Rattle.txn_dialogue.specs.Ending.{StepEnd, Done, Aborted, StepCourse, slot_of}
 use Rattle.txn_dialogue.specs.Runs.{request_facts, beginning, takes}
 use Rattle.txn_dialogue.specs.Events.{first_work, work_on, after_request}
+use Rattle.txn_dialogue.specs.Replies.{noted, over_client}
 use Rattle.txn_dialogue.specs.Dialogue.{dialogue}
 use Rattle.txn_dialogue.specs.declared.mark.Mark.{Mark}
 
@@ -49,6 +50,13 @@ story seen (Ends end) hs = record { asks = []; seen = slot_of end; mark = mark_o
 story seen (Asks a next) [] = record { asks = a ∷ []; seen = seen; mark = None }
 story seen (Asks a next) (h ∷ hs) = and_asked a (story seen (next h) hs)
 story seen (Takes short on) hs = story seen on hs
+
+-- the same, but memory is short where it is first needed
+abbrev pub short_story : Seen → StepCourse → List Heard → Story
+short_story seen (Ends end) hs = record { asks = []; seen = slot_of end; mark = mark_of end }
+short_story seen (Asks a next) [] = record { asks = a ∷ []; seen = seen; mark = None }
+short_story seen (Asks a next) (h ∷ hs) = and_asked a (short_story seen (next h) hs)
+short_story seen (Takes short on) hs = story seen short hs
 
 -- how a slot stands: it is live; or it waits under this serial; or it is vacant, under this generation
 pub data Stand : Type 0 where
@@ -227,6 +235,10 @@ texts_to at (a ∷ as') = text_to at a ++ texts_to at as'
 -- what t_relay takes where the request goes to this URI alone
 abbrev pub relay_to : List ℕ → Relay
 relay_to uri = record { edits = []; uri = uri; destination = None; targets = []; absent_hops = None }
+
+-- the first branch has failed with 486, and there are two blocks for another one
+abbrev pub first_failed : Work → Work
+first_failed w = record (noted 0 486 (over_client 0 w)) { blocks = w.blocks + 2 }
 
 -- a state with these timers due
 abbrev pub with_due : Option ℕ → Option ℕ → TxnState → TxnState

@@ -19,7 +19,7 @@ ghost use Rattle.txn_dialogue.specs.Slots.{SeenVacant, reading};
 ghost use Rattle.txn_dialogue.specs.Dialogue.{dialogue};
 ghost use Rattle.txn_dialogue.specs.Memory.{short};
 ghost use Rattle.txn_dialogue.specs.Events.{fired};
-ghost use Rattle.txn_dialogue.specs.Examples.{Lives, Waits, IsVacant, told, begun, caller, callee, example_proxy, invite, then_comes, then_responds, relays_to, makes_nothing, sent_and_noted, two_sent, three_sent, ringing, forked, asleep, on_slot, story, first_does, others, texts_to, relay_to, with_blocks, with_due, unsent_due, timer_in};
+ghost use Rattle.txn_dialogue.specs.Examples.{Lives, Waits, IsVacant, told, begun, caller, callee, example_proxy, invite, then_comes, then_responds, relays_to, makes_nothing, sent_and_noted, two_sent, three_sent, ringing, forked, asleep, on_slot, story, short_story, first_failed, first_does, others, texts_to, relay_to, with_blocks, with_due, unsent_due, timer_in};
 
 /// An INVITE is relayed to its one target: 100 goes back, and the INVITE on; timer A is due next. Where it comes again, 100 goes back again.
 pub fn a_request_is_relayed()
@@ -110,17 +110,25 @@ pub fn a_silent_run()
         ≡ (ask.Block ∷ ask.Block ∷ ask.Send caller (codes "SIP/2.0 503 Service Unavailable") ∷ ask.GiveBack ∷ ask.Due None ∷ ask.Free ∷ [], IsVacant 1, Some Handled) }
 {}
 
-/// Out of memory after a suspension was opened the request waits; out of memory on a live slot nothing is sent, and the next timer is above now.
+/// Out of memory after a suspension was opened the request waits; out of memory on a live slot nothing is sent, and the next timer is above
+/// now; a continuation that finds no memory leaves its request waiting.
 pub fn out_of_memory()
+    ensures continuation { told (short_story asleep.seen (dialogue (example_proxy ([] ∷ [])) asleep.seen 0 (Continue 1 0) 60) (heard.Noted ∷ []))
+        ≡ (ask.Due (Some 30000) ∷ [], Waits 1, None) }
     ensures opened { told (on_slot ringing 700 (short (record { blocks = 2; label = Some 1 })) (heard.Noted ∷ heard.Noted ∷ heard.Noted ∷ []))
         ≡ (ask.GiveBack ∷ ask.GiveBack ∷ ask.Due (Some 30000) ∷ [], Waits 1, None) }
     ensures unopened { told (on_slot ringing 700 (short (record { blocks = 2; label = None })) (heard.Noted ∷ heard.Noted ∷ heard.Noted ∷ []))
         ≡ (ask.GiveBack ∷ ask.GiveBack ∷ ask.Due (Some 30000) ∷ [], Lives, None) }
 {}
 
-/// A first request that finds no memory is answered 500, and its slot is free again.
+/// A first request that finds no memory is answered 500, and its slot is free again; one that waits by then goes on waiting.
 pub fn a_first_request_without_memory()
-    ensures { told (story (SeenVacant 0) (first_does (example_proxy []) (short (record { blocks = 0; label = None })) (reading invite))
+    ensures run { told (short_story (SeenVacant 0) (dialogue (example_proxy ([] ∷ [])) (SeenVacant 0) 0 (Request invite caller) 0)
+        (heard.Block true ∷ heard.Block true ∷ heard.Sent ∷ heard.Noted ∷ heard.Noted ∷ heard.Noted ∷ heard.Noted ∷ []))
+        ≡ (ask.Block ∷ ask.Block ∷ ask.Send caller (codes "SIP/2.0 500 Out of Memory") ∷ ask.GiveBack ∷ ask.GiveBack ∷ ask.Due None ∷ ask.Free ∷ [], IsVacant 1, None) }
+    ensures waits { told (story (SeenVacant 0) (first_does (example_proxy []) (short (record { blocks = 0; label = Some 1 })) (reading invite)) (heard.Noted ∷ []))
+        ≡ (ask.Due (Some 30000) ∷ [], Waits 1, None) }
+    ensures kept { told (story (SeenVacant 0) (first_does (example_proxy []) (short (record { blocks = 0; label = None })) (reading invite))
         (heard.Sent ∷ heard.Noted ∷ heard.Noted ∷ heard.Noted ∷ heard.Noted ∷ []))
         ≡ (ask.Send caller (codes "SIP/2.0 500 Out of Memory") ∷ ask.GiveBack ∷ ask.GiveBack ∷ ask.Due None ∷ ask.Free ∷ [], IsVacant 1, None) }
 {}
@@ -158,13 +166,17 @@ pub fn a_dropped_target_is_removed()
         ≡ (ask.Send caller (codes "SIP/2.0 500 Server Internal Error") ∷ ask.GiveBack ∷ ask.GiveBack ∷ ask.Due (Some 500) ∷ [], Lives, Some Handled) }
 {}
 
-/// A failure block that decides nothing lets the best response go back; one that relays begins a second round.
+/// A failure block that decides nothing lets the best response go back; one that relays begins a second round, and where that fails too
+/// its own best response goes back, whatever the first round had.
 pub fn a_failure_block_runs()
     ensures silent { told (then_responds (example_proxy ([] ∷ [])) (begun (example_proxy ([] ∷ [])) (λ r s. relays_to [] r (with_blocks None (Some 0) s)) invite two_sent)
         0 (codes "0") (codes "SIP/2.0 486 Busy Here") 200 two_sent)
         ≡ (ask.Send callee (codes "ACK sip:b@192.0.2.9 SIP/2.0") ∷ ask.Send caller (codes "SIP/2.0 486 Busy Here") ∷ ask.Due (Some 700) ∷ [], Lives, Some Handled) }
-    ensures relays { told (on_slot ringing 200 (after_failure_by (example_proxy []) (over (example_proxy []) 11) (made 486) (Relayed (relay_to (codes "sip:c@192.0.2.10")))) sent_and_noted)
-        ≡ (ask.Send (others 1) (codes "INVITE sip:c@192.0.2.10 SIP/2.0") ∷ ask.Due (Some 500) ∷ [], Lives, Some Handled) }
+    ensures relays { told (on_slot ringing 200 (λ w. after_failure_by (example_proxy []) (over (example_proxy []) 11) (made 486) (Relayed (relay_to (codes "sip:c@192.0.2.10"))) (first_failed w)) sent_and_noted)
+        ≡ (ask.Send (others 1) (codes "INVITE sip:c@192.0.2.10 SIP/2.0") ∷ ask.Due (Some 700) ∷ [], Lives, Some Handled) }
+    ensures fails_again { told (then_responds (example_proxy []) (on_slot ringing 200 (λ w. after_failure_by (example_proxy []) (over (example_proxy []) 11) (made 486) (Relayed (relay_to (codes "sip:c@192.0.2.10"))) (first_failed w)) sent_and_noted)
+        1 (codes "1") (codes "SIP/2.0 488 Not Acceptable Here") 300 two_sent)
+        ≡ (ask.Send (others 1) (codes "ACK sip:c@192.0.2.10 SIP/2.0") ∷ ask.Send caller (codes "SIP/2.0 488 Not Acceptable Here") ∷ ask.Due (Some 800) ∷ [], Lives, Some Handled) }
 {}
 
 /// A request that couldn't be sent is due at once, and counts as 503.
