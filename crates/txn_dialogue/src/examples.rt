@@ -19,7 +19,7 @@ ghost use Rattle.txn_dialogue.specs.Slots.{SeenVacant, reading};
 ghost use Rattle.txn_dialogue.specs.Dialogue.{dialogue};
 ghost use Rattle.txn_dialogue.specs.Memory.{short};
 ghost use Rattle.txn_dialogue.specs.Events.{fired};
-ghost use Rattle.txn_dialogue.specs.Examples.{Lives, Waits, IsVacant, told, begun, caller, callee, example_proxy, invite, then_comes, then_responds, relays_to, makes_nothing, sent_and_noted, two_sent, three_sent, ringing, forked, asleep, on_slot, story, short_story, first_failed, first_does, others, texts_to, relay_to, with_blocks, with_due, unsent_due, timer_in};
+ghost use Rattle.txn_dialogue.specs.Examples.{Lives, Waits, IsVacant, told, begun, caller, callee, example_proxy, invite, then_comes, then_responds, relays_to, makes_nothing, sent_and_noted, two_sent, three_sent, ringing, forked, asleep, on_slot, story, short_story, first_failed, first_does, others, texts_to, relay_to, two_more, with_blocks, with_due, unsent_due, timer_in};
 
 /// An INVITE is relayed to its one target: 100 goes back, and the INVITE on; timer A is due next. Where it comes again, 100 goes back again.
 pub fn a_request_is_relayed()
@@ -179,12 +179,14 @@ pub fn a_failure_block_runs()
         ≡ (ask.Send (others 1) (codes "ACK sip:c@192.0.2.10 SIP/2.0") ∷ ask.Send caller (codes "SIP/2.0 488 Not Acceptable Here") ∷ ask.Due (Some 800) ∷ [], Lives, Some Handled) }
 {}
 
-/// A request that couldn't be sent is due at once, and counts as 503.
+/// A request that couldn't be sent is due at once, and counts as 503; the other branches go on.
 pub fn an_unsent_request_counts_as_503()
-    ensures due { (begun (example_proxy []) (relays_to []) invite (heard.Sent ∷ heard.Failed ∷ heard.Noted ∷ [])).asks
-        ≡ (begun (example_proxy []) (relays_to []) invite (heard.Sent ∷ heard.Failed ∷ [])).asks }
+    ensures due { told (begun (example_proxy []) (relays_to []) invite (heard.Sent ∷ heard.Failed ∷ heard.Noted ∷ []))
+        ≡ (ask.Send caller (codes "SIP/2.0 100 Trying") ∷ ask.Send callee (codes "INVITE sip:b@192.0.2.9 SIP/2.0") ∷ ask.Due (Some 0) ∷ [], Lives, Some Handled) }
     ensures counted { told (then_comes (example_proxy []) (begun (example_proxy []) (relays_to []) invite (heard.Sent ∷ heard.Failed ∷ heard.Noted ∷ [])) Timer 0 sent_and_noted)
         ≡ (ask.Send caller (codes "SIP/2.0 500 Server Internal Error") ∷ ask.Due (Some 500) ∷ [], Lives, Some Handled) }
+    ensures goes_on { told (then_comes (example_proxy []) (begun (example_proxy []) (relays_to two_more) invite (heard.Sent ∷ heard.Failed ∷ two_sent)) Timer 0 (heard.Noted ∷ []))
+        ≡ (ask.Due (Some 500) ∷ [], Lives, Some Handled) }
 {}
 
 /// Of timers that are due at one moment S goes before the server's, and these before a branch's, whose X goes before its client's.
