@@ -45,7 +45,7 @@ use Rattle.txn_dialogue.specs.Replies.{BranchReply, class_event, forwarded_now, 
 use Rattle.txn_dialogue.specs.Events.{work_on, cancelled, marked_cancelled, is_continued, cancel_claimed, cancel_heard, cancel_by, suspension_claimed, suspension_heard, suspension_fired, undue, unsuspended, client_fired, cancel_fired, invite_cancelling, final_fired, quit_fired, branch_fired, at_its_branch, fired}
 use Rattle.txn_dialogue.proofs.Whole.{step_whole, whole_short}
 use Rattle.txn_dialogue.specs.Dialogue.{at_event, dialogue}
-use Rattle.txn_dialogue.specs.Shortage.{fits_ask, short_after, AbortsShort, is_aborted}
+use Rattle.txn_dialogue.specs.Shortage.{fits_ask, AbortsShort, is_aborted}
 use Rattle.txn_dialogue.specs.Steady.{TakesNothing, failure_to_run, Steady, IsHeldAck, HasNoReplyBlock, HasNoFailureBlock}
 
 if_steady : (b : Bool) (x y : StepCourse) → Steady x → Steady y → Steady (if b then x else y)

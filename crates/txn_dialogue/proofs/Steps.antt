@@ -19,7 +19,6 @@ use Rattle.txn_client.specs.declared.machine.Client.{Client}
 use Rattle.txn_client.specs.declared.machine.ClientTimer.{ClientTimer}
 use Rattle.txn_client.specs.declared.machine.ClientEvent.TheVariants as client
 use Rattle.txn_client.specs.After.{client_after}
-use Rattle.txn_server.specs.declared.machine.Server.{Server}
 use Rattle.txn_server.specs.declared.machine.ServerEvent.TheVariants as server
 use Rattle.txn_server.specs.After.{server_after}
 use Rattle.pv_values.specs.declared.block.BlockKind.TheVariants as block

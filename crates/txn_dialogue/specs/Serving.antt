@@ -1,5 +1,5 @@
 -- The server of a slot, over the slot's history.
-use Rattle.std.specs.Prelude.{◌≡◌, ℕ, ◌+◌, ◌⊎◌, true, List, [], ◌∷◌}
+use Rattle.std.specs.Prelude.{◌≡◌, ◌+◌, ◌⊎◌, true, List, [], ◌∷◌}
 use Rattle.dialogue.specs.Course.{Ends, Asks, Takes}
 use Rattle.txn_server.specs.declared.machine.Server.{Server}
 use Rattle.txn_server.specs.Rows.{ServerStep, new_server}
