@@ -1,5 +1,5 @@
 -- The end of a step: the datagrams, the blocks that go back, the place in the wheel, and the slot's key.
-use Rattle.std.specs.Prelude.{ℕ, zero, suc, ◌+◌, ◌-◌, ◌*◌, Bool, true, false, not, ◌&&◌, ◌||◌, List, [], ◌∷◌, length, Option, Some, None, if◌then◌else◌}
+use Rattle.std.specs.Prelude.{ℕ, zero, suc, ◌+◌, ◌-◌, ◌*◌, Bool, true, false, not, ◌&&◌, List, [], ◌∷◌, length, Option, Some, None, if◌then◌else◌}
 use Rattle.std.specs.List.{list_all}
 use Rattle.dialogue.specs.Course.{Course, Ends, Asks}
 use Rattle.txn_client.specs.declared.machine.ClientState.{ClientState}
@@ -23,6 +23,11 @@ pub data StepEnd : Type 0 where
 
 abbrev pub StepCourse : Type 0
 StepCourse = Course Asked Heard StepEnd
+
+-- the slot behind a step
+abbrev pub slot_of : StepEnd → Seen
+slot_of (Done slot mark) = slot
+slot_of (Aborted slot) = slot
 
 -- what is left to do: the datagrams, the blocks that go back, and the transaction behind them, which stays with its blocks or goes;
 -- without a mark the step is aborted

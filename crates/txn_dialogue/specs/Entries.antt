@@ -1,7 +1,7 @@
 -- What is recorded of steps, and what a slot's history makes of the slot.
 use Rattle.std.specs.Prelude.{◌≡◌, ℕ, ◌+◌, List, [], ◌∷◌, ◌++◌, Option, Some, None}
 use Rattle.dialogue.specs.declared.item.CourseItem.{CourseItem}
-use Rattle.dialogue.specs.declared.item.CourseItem.TheVariants.{Told, Short}
+use Rattle.dialogue.specs.declared.item.CourseItem.TheVariants.{Told}
 use Rattle.dialogue.specs.Items.{Comes}
 use Rattle.host_meaning.specs.declared.ask.Asked.{Asked}
 use Rattle.host_meaning.specs.declared.ask.Asked.TheVariants as ask
@@ -14,9 +14,9 @@ use Rattle.txn_dialogue.specs.declared.entry.LooseEntry.{LooseEntry}
 use Rattle.txn_dialogue.specs.declared.entry.Occasion.{Occasion}
 use Rattle.txn_dialogue.specs.declared.entry.Occasion.TheVariants.{Datagram, Pop, Job}
 use Rattle.txn_dialogue.specs.declared.happening.Happening.{Happening}
-use Rattle.txn_dialogue.specs.declared.happening.Happening.TheVariants.{Request, Copy, Ack, Reply, Timer, Continue, Cancel}
+use Rattle.txn_dialogue.specs.declared.happening.Happening.TheVariants.{Timer, Continue, Cancel}
 use Rattle.txn_dialogue.specs.declared.mark.Mark.{Mark}
-use Rattle.txn_dialogue.specs.Slots.{Proxy, Seen, SeenVacant, SeenLive, generation_of}
+use Rattle.txn_dialogue.specs.Slots.{Proxy, Seen, SeenVacant, generation_of}
 use Rattle.txn_dialogue.specs.Ending.{end_of}
 use Rattle.txn_dialogue.specs.Dialogue.{dialogue}
 use Rattle.txn_dialogue.specs.Loose.{Handling, OfSlot, Runs, Answers, Drops, Handles, LooseEnd, LooseDone, LooseAborted, loose_dialogue}

@@ -1,5 +1,5 @@
 -- What a step does at each event of a transaction.
-use Rattle.std.specs.Prelude.{ℕ, ◌+◌, ◌==◌, Bool, true, false, not, ◌&&◌, ◌||◌, List, [], ◌∷◌, length, Option, Some, None, slice_get, if◌then◌else◌, codes}
+use Rattle.std.specs.Prelude.{ℕ, ◌==◌, Bool, true, false, not, List, [], Option, Some, None, slice_get, if◌then◌else◌, codes}
 use Rattle.dialogue.specs.Course.{Ends, Asks}
 use Rattle.outside_ports.specs.declared.port.Addr.{Addr}
 use Rattle.claim_words.specs.declared.By.{By}
@@ -9,7 +9,6 @@ use Rattle.claim_words.specs.declared.ClaimEnd.TheVariants.{Won, Lost, Past, Unk
 use Rattle.pv_values.specs.declared.block.BlockKind.TheVariants as block
 use Rattle.pv_values.specs.declared.run.How.{How}
 use Rattle.txn_client.specs.declared.machine.Client.{Client}
-use Rattle.txn_client.specs.declared.machine.ClientActs.{ClientActs}
 use Rattle.txn_client.specs.declared.machine.ClientEvent.TheVariants as client
 use Rattle.txn_client.specs.declared.machine.ClientTimer.{ClientTimer}
 use Rattle.txn_client.specs.After.{client_after}
@@ -33,14 +32,14 @@ use Rattle.txn_dialogue.specs.declared.happening.BranchTimer.{BranchTimer}
 use Rattle.txn_dialogue.specs.declared.happening.BranchTimer.TheVariants as branch_timer
 use Rattle.txn_dialogue.specs.declared.happening.SlotTimer.{SlotTimer}
 use Rattle.txn_dialogue.specs.declared.happening.SlotTimer.TheVariants as slot_timer
-use Rattle.txn_dialogue.specs.Slots.{Proxy, Origin, TxnBranch, TxnState, Live, Seen, SeenVacant, SeenLive, first_state, reading}
+use Rattle.txn_dialogue.specs.Slots.{Proxy, Origin, TxnBranch, Live, SeenVacant, SeenLive, first_state, reading}
 use Rattle.txn_dialogue.specs.Timers.{timer_at}
 use Rattle.txn_dialogue.specs.Sends.{Work, has_final, and_sent, sent_if, back_to, responded, all_responded, made_text, server_step, at_branch, client_step, is_proceeding, cancelling, cancelling_pending}
-use Rattle.txn_dialogue.specs.Ending.{StepEnd, Done, StepCourse, finish, leave_off}
+use Rattle.txn_dialogue.specs.Ending.{Done, StepCourse, finish, leave_off}
 use Rattle.txn_dialogue.specs.Memory.{short_outside}
 use Rattle.txn_dialogue.specs.Runs.{request_facts, takes, ran}
 use Rattle.txn_dialogue.specs.Rounds.{made, over, most_rounds, relaying, suspending, is_drop}
-use Rattle.txn_dialogue.specs.Replies.{counts, counted_by, over_client, to_cancel_client}
+use Rattle.txn_dialogue.specs.Replies.{counts, over_client, to_cancel_client}
 use Rattle.txn_dialogue.specs.LooseRuns.{loosely_ran}
 
 -- ---- a request

@@ -1,5 +1,5 @@
 -- Short texts, and steps over them, in which the laws of `examples` are said.
-use Rattle.std.specs.Prelude.{ℕ, suc, ◌+◌, ◌*◌, ◌==◌, length, Bool, true, false, ◌&&◌, List, [], ◌∷◌, ◌++◌, Option, Some, None, if◌then◌else◌, codes}
+use Rattle.std.specs.Prelude.{ℕ, ◌+◌, ◌*◌, ◌==◌, length, Bool, ◌&&◌, List, [], ◌∷◌, ◌++◌, Option, Some, None, if◌then◌else◌, codes}
 use Rattle.dialogue.specs.Course.{Ends, Asks, Takes}
 use Rattle.outside_ports.specs.declared.port.Addr.{Addr}
 use Rattle.pv_values.specs.declared.block.BlockKind.TheVariants as block
@@ -10,7 +10,6 @@ use Rattle.host_meaning.specs.declared.ask.Asked.{Asked}
 use Rattle.host_meaning.specs.declared.ask.Asked.TheVariants as ask
 use Rattle.host_meaning.specs.declared.ask.Heard.{Heard}
 use Rattle.host_meaning.specs.declared.ask.Heard.TheVariants as heard
-use Rattle.host_meaning.specs.declared.settings.Settings.{Settings}
 use Rattle.pv_table.specs.declared.facts.Target.{Target}
 use Rattle.pv_table.specs.declared.facts.Relay.{Relay}
 use Rattle.txn_dialogue.specs.declared.happening.SlotTimer.{SlotTimer}
@@ -23,32 +22,55 @@ use Rattle.txn_dialogue.specs.declared.happening.Happening.TheVariants as happen
 use Rattle.txn_dialogue.specs.declared.happening.Happening.{Happening}
 use Rattle.txn_dialogue.specs.Slots.{Proxy, Origin, TxnState, change_at, Seen, SeenVacant, SeenLive, reading}
 use Rattle.txn_dialogue.specs.Sends.{Work}
-use Rattle.txn_dialogue.specs.Ending.{StepEnd, Done, Aborted, StepCourse, finish}
+use Rattle.txn_dialogue.specs.Ending.{StepEnd, Done, Aborted, StepCourse, slot_of}
 use Rattle.txn_dialogue.specs.Runs.{request_facts, beginning, takes}
 use Rattle.txn_dialogue.specs.Events.{first_work, work_on, after_request}
+use Rattle.txn_dialogue.specs.Replies.{noted, over_client}
 use Rattle.txn_dialogue.specs.Dialogue.{dialogue}
-use Rattle.txn_dialogue.specs.declared.mark.Mark.TheVariants.{Handled}
+use Rattle.txn_dialogue.specs.declared.mark.Mark.{Mark}
 
 -- ---- what a step does
 
--- what was asked on these answers, and the slot behind it
+-- what was asked on these answers, the slot behind it, and its mark; without a mark the step was aborted, or isn't over
 pub record Story : Type 0 where
   pub asks : List Asked
   pub seen : Seen
-
-abbrev pub slot_of : StepEnd → Seen
-slot_of (Done seen mark) = seen
-slot_of (Aborted seen) = seen
+  pub mark : Option Mark
 
 abbrev pub and_asked : Asked → Story → Story
 and_asked a s = record s { asks = a ∷ s.asks }
 
+abbrev pub mark_of : StepEnd → Option Mark
+mark_of (Done seen mark) = Some mark
+mark_of (Aborted seen) = None
+
 -- memory is found everywhere; where answers are missing the course is left
 abbrev pub story : Seen → StepCourse → List Heard → Story
-story seen (Ends end) hs = record { asks = []; seen = slot_of end }
-story seen (Asks a next) [] = record { asks = a ∷ []; seen = seen }
+story seen (Ends end) hs = record { asks = []; seen = slot_of end; mark = mark_of end }
+story seen (Asks a next) [] = record { asks = a ∷ []; seen = seen; mark = None }
 story seen (Asks a next) (h ∷ hs) = and_asked a (story seen (next h) hs)
 story seen (Takes short on) hs = story seen on hs
+
+-- the same, but memory is short where it is first needed
+abbrev pub short_story : Seen → StepCourse → List Heard → Story
+short_story seen (Ends end) hs = record { asks = []; seen = slot_of end; mark = mark_of end }
+short_story seen (Asks a next) [] = record { asks = a ∷ []; seen = seen; mark = None }
+short_story seen (Asks a next) (h ∷ hs) = and_asked a (short_story seen (next h) hs)
+short_story seen (Takes short on) hs = story seen short hs
+
+-- how a slot stands: it is live; or it waits under this serial; or it is vacant, under this generation
+pub data Stand : Type 0 where
+  Lives : Stand
+  Waits : (serial : ℕ) → Stand
+  IsVacant : (generation : ℕ) → Stand
+
+abbrev pub waits_under : Option ℕ → Stand
+waits_under None = Lives
+waits_under (Some serial) = Waits serial
+
+abbrev pub stand_of : Seen → Stand
+stand_of (SeenVacant generation) = IsVacant generation
+stand_of (SeenLive live) = waits_under live.state.suspension
 
 -- the start line of a text
 abbrev pub start_line_of : List ℕ → List ℕ
@@ -63,6 +85,10 @@ line_of a = a
 abbrev pub lines_of : List Asked → List Asked
 lines_of [] = []
 lines_of (a ∷ as') = line_of a ∷ lines_of as'
+
+-- the whole list of asks, of each datagram its start line; how the slot stands behind them; and the mark
+abbrev pub told : Story → List Asked × Stand × Option Mark
+told s = (lines_of s.asks, stand_of s.seen, s.mark)
 
 -- ---- who takes part
 
@@ -209,6 +235,10 @@ texts_to at (a ∷ as') = text_to at a ++ texts_to at as'
 -- what t_relay takes where the request goes to this URI alone
 abbrev pub relay_to : List ℕ → Relay
 relay_to uri = record { edits = []; uri = uri; destination = None; targets = []; absent_hops = None }
+
+-- the first branch has failed with 486, and there are two blocks for another one
+abbrev pub first_failed : Work → Work
+first_failed w = record (noted 0 486 (over_client 0 w)) { blocks = w.blocks + 2 }
 
 -- a state with these timers due
 abbrev pub with_due : Option ℕ → Option ℕ → TxnState → TxnState

@@ -12,4 +12,8 @@ pub mod Dialogue
 pub mod Loose
 pub mod Entries
 pub mod Steady
+pub mod Blocks
+pub mod Order
+pub mod Serving
+pub mod Shortage
 pub mod Examples

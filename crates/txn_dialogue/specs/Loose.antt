@@ -1,11 +1,9 @@
 -- Datagrams that are of no slot, and which datagram is which: its handling.
-use Rattle.std.specs.Prelude.{◌≡◌, ℕ, ◌+◌, ◌==◌, Bool, true, false, not, ◌&&◌, ◌||◌, List, [], ◌∷◌, ◌++◌, drop, take, length, Option, Some, None, is_some, nat_eq, nat_le, nat_lt, unwrap_or, ◌<◌, if◌then◌else◌, codes}
+use Rattle.std.specs.Prelude.{◌≡◌, ℕ, ◌==◌, Bool, true, false, not, ◌&&◌, ◌||◌, List, [], ◌∷◌, drop, length, Option, Some, None, is_some, nat_eq, nat_le, nat_lt, unwrap_or, ◌<◌, if◌then◌else◌, codes}
 use Rattle.std.specs.List.{list_all, starts_with}
 use Rattle.std.specs.Str.{bytes_eq, str_to_ascii_lowercase}
 use Rattle.dialogue.specs.Course.{Course, Ends, Asks, and_then}
 use Rattle.outside_ports.specs.declared.port.Addr.{Addr}
-use Rattle.sip_words.specs.declared.Span.{Span}
-use Rattle.sip_fields.specs.declared.via.Via.{Via}
 use Rattle.sip_scan.specs.Lines.{skipped}
 use Rattle.sip_scan.specs.declared.field.Kind.TheVariants as kind
 use Rattle.sip_msg.specs.Fields.{count}
@@ -18,9 +16,7 @@ use Rattle.sip_keys.specs.Keys.{branch_in}
 use Rattle.sip_keys.specs.declared.branch.Branch.{Branch}
 use Rattle.sip_build.specs.Addresses.{reply_address}
 use Rattle.sip_build.specs.Reply.{reply_text, basis_reply_text}
-use Rattle.txn_store.specs.declared.index.IndexEnd.{IndexEnd}
 use Rattle.txn_store.specs.declared.index.IndexEnd.TheVariants.{Old, New, Full}
-use Rattle.pv_values.specs.declared.run.How.{How}
 use Rattle.host_meaning.specs.declared.ask.Asked.{Asked}
 use Rattle.host_meaning.specs.declared.ask.Asked.TheVariants as ask
 use Rattle.host_meaning.specs.declared.ask.Heard.{Heard}

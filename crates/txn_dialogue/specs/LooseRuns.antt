@@ -1,5 +1,5 @@
 -- A run of `request_route` over an ACK or a CANCEL, which have no transaction of their own.
-use Rattle.std.specs.Prelude.{ℕ, ◌+◌, Bool, not, ◌&&◌, ◌||◌, List, [], ◌∷◌, ◌++◌, map, Option, Some, None, if◌then◌else◌}
+use Rattle.std.specs.Prelude.{ℕ, ◌+◌, not, ◌&&◌, List, [], ◌∷◌, map, Option, Some, None, if◌then◌else◌}
 use Rattle.std.specs.List.{list_any}
 use Rattle.outside_ports.specs.declared.port.Addr.{Addr}
 use Rattle.sip_build.specs.Addresses.{reply_address}
@@ -12,7 +12,7 @@ use Rattle.pv_table.specs.declared.facts.Relay.{Relay}
 use Rattle.pv_table.specs.declared.facts.Response.{Response}
 use Rattle.pv_table.specs.declared.facts.Outcome.{Outcome}
 use Rattle.pv_table.specs.declared.facts.Outcome.TheVariants.{Undecided, Stateless, Answered, Relayed, Suspended}
-use Rattle.host_meaning.specs.Run.{Received, Around, RunState, is_readable}
+use Rattle.host_meaning.specs.Run.{Received, RunState, is_readable}
 use Rattle.host_meaning.specs.Responses.{is_ack}
 use Rattle.host_meaning.specs.Relaying.{target_address, loose_ack}
 use Rattle.txn_dialogue.specs.declared.mark.Mark.{Mark}

@@ -1,5 +1,5 @@
 -- Out of memory.
-use Rattle.std.specs.Prelude.{ℕ, ◌+◌, ◌-◌, ◌==◌, Bool, true, false, List, [], ◌∷◌, Option, Some, None, if◌then◌else◌, codes}
+use Rattle.std.specs.Prelude.{ℕ, ◌+◌, ◌-◌, ◌==◌, Bool, true, false, [], Option, Some, None, if◌then◌else◌, codes}
 use Rattle.txn_moments.specs.Moments.{moment_after}
 use Rattle.host_meaning.specs.Run.{Kept}
 use Rattle.txn_dialogue.specs.Slots.{TxnState}

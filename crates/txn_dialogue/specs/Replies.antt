@@ -1,5 +1,5 @@
 -- Responses that come on a branch (RFC 3261, sections 16.7 and 17.1), and those that are counted for it.
-use Rattle.std.specs.Prelude.{ℕ, ◌==◌, Bool, true, false, not, ◌&&◌, ◌||◌, List, [], ◌∷◌, ◌++◌, Option, Some, None, is_none, is_some, nat_le, nat_lt, slice_get, if◌then◌else◌, codes}
+use Rattle.std.specs.Prelude.{ℕ, Bool, true, false, not, ◌&&◌, List, [], ◌∷◌, ◌++◌, Option, Some, None, nat_le, nat_lt, slice_get, if◌then◌else◌, codes}
 use Rattle.std.specs.Str.{bytes_eq}
 use Rattle.outside_ports.specs.declared.port.Addr.{Addr}
 use Rattle.msg_edits.specs.declared.parts.Edit.{Edit}
@@ -17,13 +17,12 @@ use Rattle.fork_core.specs.Decisions.{forwarding_of, is_to_keep}
 use Rattle.fork_core.specs.declared.context.Forwarding.{Forwarding}
 use Rattle.fork_core.specs.declared.context.Forwarding.TheVariants.{Now, Kept, Nothing}
 use Rattle.pv_values.specs.declared.block.BlockKind.TheVariants as block
-use Rattle.pv_values.specs.declared.run.How.{How}
 use Rattle.pv_table.specs.UriParts.{bytes_at}
 use Rattle.host_meaning.specs.Run.{Received}
 use Rattle.host_meaning.specs.Transactions.{is_invite, status_of}
 use Rattle.txn_dialogue.specs.declared.mark.Mark.TheVariants.{Handled, Dropped}
 use Rattle.txn_dialogue.specs.declared.mark.Cause.TheVariants as cause
-use Rattle.txn_dialogue.specs.Slots.{Proxy, TxnBranch, TxnState, change_at, reading}
+use Rattle.txn_dialogue.specs.Slots.{Proxy, TxnBranch, TxnState, reading}
 use Rattle.txn_dialogue.specs.Sends.{Work, has_final, at_branch, client_step, responding, cancel_ripe, cancelling_pending}
 use Rattle.txn_dialogue.specs.Ending.{StepCourse, finish}
 use Rattle.txn_dialogue.specs.Runs.{facts_at, takes_avps, ran}

@@ -1,8 +1,7 @@
 -- Rounds: targets become branches, and when all have failed the best response is chosen (RFC 3261, sections 16.6 and 16.7).
-use Rattle.std.specs.Prelude.{ℕ, zero, suc, ◌+◌, ◌==◌, Bool, true, false, not, ◌&&◌, ◌||◌, List, [], ◌∷◌, ◌++◌, length, map, filter, Option, Some, None, nat_le, nat_lt, slice_get, if◌then◌else◌, codes}
+use Rattle.std.specs.Prelude.{ℕ, zero, suc, ◌==◌, Bool, true, false, not, ◌&&◌, ◌||◌, List, [], ◌∷◌, ◌++◌, length, map, filter, Option, Some, None, nat_le, nat_lt, slice_get, if◌then◌else◌, codes}
 use Rattle.std.specs.List.{list_any}
 use Rattle.outside_ports.specs.declared.port.Addr.{Addr}
-use Rattle.msg_edits.specs.declared.parts.Edit.{Edit}
 use Rattle.sip_scan.specs.declared.field.HeaderSpan.{HeaderSpan}
 use Rattle.sip_build.specs.Parts.{part}
 use Rattle.sip_build.specs.WithField.{with_field}
@@ -23,9 +22,8 @@ use Rattle.host_meaning.specs.Transactions.{is_invite}
 use Rattle.host_meaning.specs.Relaying.{target_address, targets_of, branch_request}
 use Rattle.txn_dialogue.specs.declared.mark.Mark.TheVariants.{Handled}
 use Rattle.txn_dialogue.specs.Slots.{Proxy, TxnBranch, TxnState, reading}
-use Rattle.txn_dialogue.specs.Sends.{Sent, Work, and_sent, has_final, responding, responded, all_responded, made_text, begun_client}
+use Rattle.txn_dialogue.specs.Sends.{Sent, Work, and_sent, responding, responded, all_responded, begun_client}
 use Rattle.txn_dialogue.specs.Ending.{StepCourse, finish}
-use Rattle.txn_dialogue.specs.Memory.{waiting}
 use Rattle.txn_dialogue.specs.Runs.{around_of, facts_at, request_facts, takes, takes_avps, ran}
 
 -- ---- a branch

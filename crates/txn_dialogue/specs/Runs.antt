@@ -1,5 +1,5 @@
 -- The runs of blocks in a step: what a run is given, and what is made of what it has at its end.
-use Rattle.std.specs.Prelude.{ℕ, ◌+◌, Bool, false, List, [], length, Option, Some, None, is_some}
+use Rattle.std.specs.Prelude.{ℕ, ◌+◌, false, List, [], length, Option, Some, is_some}
 use Rattle.dialogue.specs.Course.{and_then}
 use Rattle.outside_ports.specs.declared.port.Addr.{Addr}
 use Rattle.msg_edits.specs.declared.parts.Edit.{Edit}

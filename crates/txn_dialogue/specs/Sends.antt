@@ -1,12 +1,11 @@
 -- What is decided in a step, and the datagrams among it.
-use Rattle.std.specs.Prelude.{◌≡◌, ℕ, suc, ◌==◌, Bool, true, false, not, ◌&&◌, ◌||◌, List, [], ◌∷◌, ◌++◌, length, Option, Some, None, is_none, slice_get, if◌then◌else◌, codes}
+use Rattle.std.specs.Prelude.{ℕ, ◌==◌, Bool, true, false, not, ◌&&◌, List, [], ◌∷◌, ◌++◌, length, Option, Some, None, is_none, slice_get, if◌then◌else◌, codes}
 use Rattle.outside_ports.specs.declared.port.Addr.{Addr}
 use Rattle.sip_build.specs.Addresses.{reply_address}
 use Rattle.sip_build.specs.Reply.{reply_text}
-use Rattle.sip_build.specs.Hop.{ack_text, cancel_text}
-use Rattle.txn_moments.specs.Moments.{t1, moment_after}
+use Rattle.sip_build.specs.Hop.{cancel_text}
+use Rattle.txn_moments.specs.Moments.{moment_after}
 use Rattle.txn_client.specs.declared.machine.Client.{Client}
-use Rattle.txn_client.specs.declared.machine.ClientActs.{ClientActs}
 use Rattle.txn_client.specs.declared.machine.ClientEvent.{ClientEvent}
 use Rattle.txn_client.specs.declared.machine.ClientEvent.TheVariants as client
 use Rattle.txn_client.specs.declared.machine.ClientState.{ClientState}

@@ -4,8 +4,6 @@ use Rattle.sip_words.specs.Words.{◌>>=◌}
 use Rattle.outside_ports.specs.declared.port.Addr.{Addr}
 use Rattle.msg_edits.specs.declared.parts.Edit.{Edit}
 use Rattle.sip_msg.specs.declared.message.Message.{Message}
-use Rattle.sip_msg.specs.declared.start.Start.{Start}
-use Rattle.sip_msg.specs.declared.start.Start.TheVariants as start
 use Rattle.sip_msg.specs.Start.{start_of}
 use Rattle.sip_msg.specs.Table.{head_of, end_of}
 use Rattle.sip_msg.specs.Values.{via_of, name_addr_of, call_id_of, cseq_of, max_forwards_of}

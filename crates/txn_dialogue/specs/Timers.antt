@@ -1,11 +1,9 @@
 -- The timers of a slot, and which of them is the one.
-use Rattle.std.specs.Prelude.{ℕ, suc, Bool, not, List, [], ◌∷◌, ◌++◌, Option, Some, None, nat_le, nat_lt, if◌then◌else◌, filter, option_map}
+use Rattle.std.specs.Prelude.{ℕ, suc, List, [], ◌∷◌, ◌++◌, Option, Some, None, nat_le, nat_lt, if◌then◌else◌, filter, option_map}
 use Rattle.txn_client.specs.declared.machine.Client.{Client}
 use Rattle.txn_client.specs.declared.machine.ClientTimer.TheVariants as client_timer
 use Rattle.txn_client.specs.declared.machine.ClientTimer.{ClientTimer}
-use Rattle.txn_server.specs.declared.machine.Server.{Server}
 use Rattle.txn_server.specs.declared.machine.ServerTimer.TheVariants as server_timer
-use Rattle.txn_dialogue.specs.declared.happening.BranchTimer.{BranchTimer}
 use Rattle.txn_dialogue.specs.declared.happening.BranchTimer.TheVariants as branch_timer
 use Rattle.txn_dialogue.specs.declared.happening.SlotTimer.{SlotTimer}
 use Rattle.txn_dialogue.specs.declared.happening.SlotTimer.TheVariants as slot_timer
