@@ -193,3 +193,15 @@ len-parts m p = (λ i. len-retain m p i + len-retain m (λ k. not (p k)) i)
 
 pub len-live-le : (clock : ℕ) (m : Items) → map.len (live clock m) ≤ map.len m
 len-live-le clock m = let e = len-parts m (λ key. is_present clock (map.get m key)) in omega arith
+
+-- no more items than entries
+pub len-items_of-le : (es : Entries) → map.len (items_of es) ≤ length es
+len-items_of-le [] = let e = len-empty by_bytes Item in omega arith
+len-items_of-le (e ∷ es) =
+    let one : map.len (items_of (e ∷ es)) ≡ cond (map.contains_key (items_of es) e.0) (map.len (items_of es)) (map.len (items_of es) + 1) = len-insert total (items_of es) e.0 e.1 in
+    let less = len-items_of-le es in
+    by (map.contains_key (items_of es) e.0) one less
+  where
+    by : (b : Bool) {n m : ℕ} → n ≡ cond b m (m + 1) → m ≤ length es → n ≤ length (e ∷ es)
+    by true is l = omega arith
+    by false is l = omega arith

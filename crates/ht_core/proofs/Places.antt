@@ -88,6 +88,22 @@ pub queues_length : (old new : List Due) (at : ℕ) (when : Option ℕ) → Queu
 queues_length old new at None h = let e = ap length h in omega arith
 queues_length old new at (Some m) h = let e = length_permutation _ new h in omega arith
 
+-- a place is queued, or was queued in time already
+pub not_before : (es : Entries) (places : List Due) (place : ℕ) (queued : Option ℕ) → AreQueuedBut place es places → ((moment : ℕ) → queued ≡ Some moment → IsQueued places place moment)
+    → comes_before (due_at es place) queued ≡ false → AreQueued es places
+not_before es places place queued but here late at moment e = by (at == place) refl
+  where
+    in_time : (moment : ℕ) (queued : Option ℕ) → ((m : ℕ) → queued ≡ Some m → IsQueued places place m) → comes_before (Some moment) queued ≡ false → IsQueued places place moment
+    in_time moment None here late = cc
+    in_time moment (Some m) here late = queued_later places place m moment (grind (arith, nat_tests)) (here m refl)
+
+    by : (b : Bool) → at == place ≡ b → IsQueued places at moment
+    by true is =
+        let same : at ≡ place = grind (arith, nat_tests) in
+        let when : due_at es place ≡ Some moment = sym (ap (due_at es) same) ∙ e in
+        subst (λ p. IsQueued places p moment) (sym same) (in_time moment queued here (sym (ap (λ w. comes_before w queued) when) ∙ late))
+    by false is = but at moment (λ same. let none : ⊥ = grind (arith, nat_tests) in none) e
+
 -- ---- the first place came out
 
 pub popped_but : (es : Entries) (old new : List Due) (due : Due) → IsPermutation old (due ∷ new) → AreQueued es old → AreQueuedBut due.place es new

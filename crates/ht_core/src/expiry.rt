@@ -4,11 +4,11 @@
 //! A place may be queued for an item that is no longer there. Such places are skipped when their moments come, or are gone once
 //! there are more than twice as many places in the queue as there are items, and 64: then it is made anew from the items.
 
-ghost use Rattle.std.specs.Prelude.{◌≡◌, ◌≢◌, ◌+◌, ◌*◌, ◌<◌, ◌≤◌, ◌==◌, false, true, Some, IsSome, IsTrue, IfOk, IfSome, OnOk, OnErr, MatchOption, MatchBool, length, slice_get};
+ghost use Rattle.std.specs.Prelude.{◌≡◌, ◌≢◌, ◌+◌, ◌*◌, ◌<◌, ◌≤◌, ◌==◌, ◌⊎◌, false, true, Some, IsSome, IsTrue, IfOk, IfSome, OnOk, OnErr, MatchOption, MatchBool, length, slice_get};
 ghost use Rattle.std.specs.FinMap as map;
 ghost use Rattle.ht_core.specs.Tables.{is_live, live};
 ghost use Rattle.ht_core.specs.Queues.{IsQueued};
-ghost use Rattle.ht_core.specs.Held.{AreQueued, HasRoom, IsHeld, IsOver, Expires, Queues, due_at, items_of, work};
+ghost use Rattle.ht_core.specs.Held.{AreQueued, AreQueuedBut, HasRoom, comes_before, IsHeld, IsOver, Expires, Queues, due_at, items_of, work};
 
 use crate::dues::{Due, Dues};
 use crate::item::Item;
@@ -68,14 +68,51 @@ pub(crate) fn trim(items: &Entries, dues: &mut Dues)
     }
 }
 
-/// Makes room for the places of one item more.
-pub(crate) fn make_room(items: &Entries, dues: &mut Dues) -> Result<(), NoMemory>
+/// Makes room for the places of one item more, if that is due some time, or any item may be.
+pub(crate) fn make_room(
+    items: &Entries,
+    dues: &mut Dues,
+    due: Option<u64>,
+) -> Result<(), NoMemory>
     ensures same { dues.new.places ≡ dues.old.places }
     ensures spare { dues.old.spare ≤ dues.new.spare }
-    ensures ok { OnOk result (2 * length items.now.entries + 68 ≤ length dues.new.places + dues.new.spare) }
+    ensures ok { OnOk result (IsSome due ⊎ (0 < length dues.old.places + dues.old.spare) → 2 * length items.now.entries + 68 ≤ length dues.new.places + dues.new.spare) }
 {
+    if due.is_none() && dues.capacity() == 0 {
+        return Ok(());
+    }
     let places = (2 * items.len()).checked_add(MORE + 4).ok_or(AllocError)?;
     dues.reserve(places)
+}
+
+/// Queues the place if its item is due before the moment for which the place is queued.
+pub(crate) fn queue_if_earlier(
+    items: &Entries,
+    dues: &mut Dues,
+    place: usize,
+    queued: Option<u64>,
+)
+    requires others { AreQueuedBut place items.now.entries dues.old.places }
+    requires queued { (moment : _) → queued ≡ Some moment → IsQueued dues.old.places place moment }
+    requires spare { IsSome (due_at items.now.entries place) → 0 < dues.old.spare }
+    requires room { HasRoom items.now.entries dues.old }
+    ensures { IsHeld items.now.entries dues.new }
+{
+    if comes_before(due_at(items, place), queued) {
+        queue(items, dues, place);
+    }
+    trim(items, dues);
+}
+
+/// The moment comes before the one for which a place is queued.
+fn comes_before(moment: Option<u64>, queued: Option<u64>) -> bool
+    ensures { result ≡ comes_before moment queued }
+{
+    match (moment, queued) {
+        (Some(moment), Some(queued)) => moment < queued,
+        (Some(_), None) => true,
+        (None, _) => false,
+    }
 }
 
 /// The item at this place is no longer live.

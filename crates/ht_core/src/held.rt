@@ -2,10 +2,12 @@
 
 ghost use Rattle.std.specs.Prelude.{◌≡◌, OnOk, OnErr};
 ghost use Rattle.ht_core.specs.Tables.{is_found_by};
-ghost use Rattle.ht_core.specs.Held.{due_of, comes_before};
+ghost use Rattle.ht_core.specs.Held.{due_of};
 
 use crate::dues::Dues;
-use crate::expiry::{Entries, due_at, expire_below, expire_some, make_room, queue, requeue, trim};
+use crate::expiry::{
+    Entries, expire_below, expire_some, make_room, queue_if_earlier, requeue,
+};
 use crate::item::Item;
 use crate::name::Name;
 use indexmap::IndexMap;
@@ -25,6 +27,12 @@ impl Model for Held {
     ghost use Rattle.ht_core.specs.Tables.{Items};
 
     ghost Value = { Items };
+
+    ghost use Rattle.std.specs.FinMap as map;
+    ghost use Rattle.std.specs.Coded.{coded_list, coded_ℕ};
+    ghost use Rattle.ht_core.specs.contracts.item.Item as item;
+
+    ghost coded = { map.code (coded_list coded_ℕ) item.the_row.coded };
 
     ghost use Rattle.ht_core.specs.Held.{items_of, IsHeld};
 
@@ -66,15 +74,9 @@ impl Held {
         ensures ok { OnOk result (self.new ≡ map.insert self.old name item) }
         ensures err { OnErr result (self.new ≡ self.old) }
     {
-        let due = item.due;
-        if due.is_some() || self.dues.capacity() > 0 {
-            make_room(&self.items, &mut self.dues)?;
-        }
+        make_room(&self.items, &mut self.dues, item.due)?;
         let (place, old) = self.items.insert_full(name, item)?;
-        if comes_before(due, due_of(old)) {
-            queue(&self.items, &mut self.dues, place);
-            trim(&self.items, &mut self.dues);
-        }
+        queue_if_earlier(&self.items, &mut self.dues, place, due_of(old));
         Ok(())
     }
 
@@ -83,18 +85,15 @@ impl Held {
         ensures ok { OnOk result (self.new ≡ due_from_now_on self.old name.now due (map.get self.old name.now)) }
         ensures err { OnErr result (self.new ≡ self.old) }
     {
-        let Some(place) = self.items.get_index_of(name) else {
+        // No two keys are equal, as the length says.
+        let _len = self.items.len();
+        let Some((place, _, item)) = self.items.get_full(name) else {
             return Ok(());
         };
-        if due.is_some() {
-            make_room(&self.items, &mut self.dues)?;
-        }
-        let queued = due_at(&self.items, place);
+        let queued = item.due;
+        make_room(&self.items, &mut self.dues, due)?;
         self.items[place].due = due;
-        if comes_before(due, queued) {
-            queue(&self.items, &mut self.dues, place);
-            trim(&self.items, &mut self.dues);
-        }
+        queue_if_earlier(&self.items, &mut self.dues, place, queued);
         Ok(())
     }
 
@@ -104,8 +103,7 @@ impl Held {
         let Some((place, _, _)) = self.items.swap_remove_full(name) else {
             return;
         };
-        queue(&self.items, &mut self.dues, place);
-        trim(&self.items, &mut self.dues);
+        queue_if_earlier(&self.items, &mut self.dues, place, None);
     }
 
     /// Takes out a few items that are no longer live.
@@ -128,6 +126,8 @@ impl Held {
         ensures live { self.new ≡ live clock self.old }
         ensures len { result ≡ map.len self.new }
     {
+        // No two keys are equal, as the length says.
+        let _len = self.items.len();
         self.items.retain(|_, item| item.is_live(clock));
         requeue(&self.items, &mut self.dues);
         self.items.len()
@@ -154,17 +154,6 @@ fn due_of(item: Option<Item>) -> Option<u64>
     ensures { result ≡ due_of item }
 {
     item?.due
-}
-
-/// The moment comes before the one for which a place is queued.
-fn comes_before(moment: Option<u64>, queued: Option<u64>) -> bool
-    ensures { result ≡ comes_before moment queued }
-{
-    match (moment, queued) {
-        (Some(moment), Some(queued)) => moment < queued,
-        (Some(_), None) => true,
-        (None, _) => false,
-    }
 }
 
 /// The pattern, if there is one, matches in the key.
