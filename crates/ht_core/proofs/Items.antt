@@ -1,7 +1,7 @@
 -- Finite maps of items: which items are live, and what a list of entries makes.
 use Rattle.std.proofs.lemmas.Bool.Decides.{nat_tests}
-use Rattle.std.proofs.Common.{◌≡◌, ℕ, ◌+◌, ◌≤◌, ◌<◌, Bool, true, false, not, ◌&&◌, cond, List, [], ◌∷◌, length, Option, Some, None, refl, sym, ap, ◌∙◌, subst, arith, nat_lt}
-use Rattle.std.specs.Prelude.{T, max, if◌then◌else◌, ◌==◌, ◌*◌, ◌^◌, is_some}
+use Rattle.std.proofs.Common.{◌≡◌, ℕ, ◌+◌, ◌-◌, ◌≤◌, ◌<◌, Bool, true, false, not, ◌&&◌, cond, List, [], ◌∷◌, length, Option, Some, None, refl, sym, ap, ◌∙◌, subst, arith, nat_lt}
+use Rattle.std.specs.Prelude.{T, max, if◌then◌else◌, ◌==◌, ◌*◌, ◌^◌, is_some, OnOk, Ok, Err, Result}
 use Rattle.std.specs.declared.cmp.Ordering.{Ordering}
 use Rattle.std.specs.declared.cmp.Ordering.TheVariants.{Less, Equal, Greater}
 use Rattle.std.specs.Ordering.{eq_by_cmp, is_eq, nat_cmp}
@@ -18,14 +18,21 @@ use Rattle.std.proofs.lemmas.Map.Keys.{IsDistinct-head, IsDistinct-tail}
 use Rattle.std.proofs.lemmas.List.Filters.{length-filter_both}
 use Rattle.pv_values.specs.declared.value.Val.{Val}
 use Rattle.ht_core.specs.declared.item.Item.{Item}
-use Rattle.ht_core.specs.Tables.{by_bytes, Items, due_after, is_live, present, is_present, live}
-use Rattle.ht_core.specs.Held.{Entries, items_of}
+use Rattle.ht_core.specs.Tables.{by_bytes, Items, due_after, is_live, present, is_present, live, TableState, Comes, limited, all_matching}
+use Rattle.ht_core.specs.declared.operation.TabReply.TheVariants as reply
+use Rattle.pv_values.specs.declared.table.TableSpec.{TableSpec}
+use Rattle.ht_core.specs.Held.{Entries, items_of, due_from_now_on}
 
 pub total : IsTotalOrder by_bytes
 total = nat_list_cmp_total
 
 pub exact : IsAntisymmetric by_bytes
 exact = slice_cmp-IsAntisymmetric nat_cmp-IsAntisymmetric
+
+pub equal : (o : Ordering) → is_eq o ≡ true → o ≡ Equal
+equal Less e = cc
+equal Equal e = refl
+equal Greater e = cc
 
 pub same : (m n : Items) → ((q : List ℕ) → map.get m q ≡ map.get n q) → m ≡ n
 same = same_map total exact
@@ -144,11 +151,6 @@ live-removed clock items k gone = live-remove clock items k ∙ same _ _ (λ q.
     none : map.get (live clock items) k ≡ None
     none = get-live clock items k ∙ gone
 
-    equal : (o : Ordering) → is_eq o ≡ true → o ≡ Equal
-    equal Less e = cc
-    equal Equal e = refl
-    equal Greater e = cc
-
     at : (q : List ℕ) (b : Bool) → eq_by_cmp by_bytes q k ≡ b → cond b None (map.get (live clock items) q) ≡ map.get (live clock items) q
     at q true e = sym (sym (get_tied total (live clock items) q k (equal _ e)) ∙ none)
     at q false e = refl
@@ -205,3 +207,59 @@ len-items_of-le (e ∷ es) =
     by : (b : Bool) {n m : ℕ} → n ≡ cond b m (m + 1) → m ≤ length es → n ≤ length (e ∷ es)
     by true is l = omega arith
     by false is l = omega arith
+
+-- ---- the table
+
+abbrev pub state : TableSpec → ℕ → Items → TableState
+state spec clock items = record { spec = spec; clock = clock; items = items }
+
+pub OnOk-map : {X E : Type 0} (r : Result X E) (P Q : Type 0) → (P → Q) → OnOk r P → OnOk r Q
+OnOk-map (Ok x) P Q f p = f p
+OnOk-map (Err e) P Q f p = tt
+
+was_live : (b : Bool) (x : Item) → is_some (cond b (Some x) None) ≡ true → cond b (Some x) None ≡ Some x
+was_live true x e = refl
+was_live false x e = cc
+
+-- the item of a key was given seconds
+pub given : (spec : TableSpec) (clock : ℕ) (held new : Items) (k : List ℕ) (seconds : ℕ) (due : Option ℕ) → is_some (map.get (live clock held) k) ≡ true → due ≡ due_after clock seconds
+    → new ≡ due_from_now_on held k due (map.get held k)
+    → Comes (state spec clock (live clock held)) (limited (state spec clock (live clock held)) k (Some seconds) (map.get (live clock held) k)) (Ok reply.Done) (state spec clock (live clock new))
+given spec clock held new k seconds due there due_is new_is = by (map.get held k) refl
+  where
+    by : (o : Option Item) → map.get held k ≡ o
+        → Comes (state spec clock (live clock held)) (limited (state spec clock (live clock held)) k (Some seconds) (map.get (live clock held) k)) (Ok reply.Done) (state spec clock (live clock new))
+    by None e = absurd (let none : false ≡ true = sym (ap is_some (get-live clock held k ∙ ap (present clock) e)) ∙ there in cc)
+    by (Some old) e =
+        let t = state spec clock (live clock held) in
+        let g0 : map.get (live clock held) k ≡ cond (is_live clock old) (Some old) None = get-live clock held k ∙ ap (present clock) e in
+        let g : map.get (live clock held) k ≡ Some old = g0 ∙ was_live _ old (sym (ap is_some g0) ∙ there) in
+        let item : Item = record { value = old.value; due = due_after clock seconds } in
+        let n : new ≡ map.insert held k item
+        = new_is ∙ ap (due_from_now_on held k due) e ∙ ap (λ d. let i : Item = record { value = old.value; due = d } in map.insert held k i) due_is in
+        subst (λ o. Comes t (limited t k (Some seconds) o) (Ok reply.Done) (state spec clock (live clock new))) (sym g)
+        (record { answered = refl; leaves = ap (λ items. state spec clock (live clock items)) n ∙ ap (state spec clock) (live-insert clock held k item (lives clock seconds old.value)) })
+
+-- the keys that are found were taken out of the live items
+module _ (spec : TableSpec) (clock : ℕ) (held before after : Items) (found : List ℕ → Bool) (n m : ℕ)
+    (before_is : before ≡ live clock held) (n_is : n ≡ map.len before) (after_is : after ≡ map.retain_keys before (λ k. not (found k))) (m_is : m ≡ map.len after) where
+  parts : map.len (map.retain_keys (live clock held) found) + m ≡ n
+  parts =
+      ap (λ i. map.len (map.retain_keys (live clock held) found) + i) (m_is ∙ ap map.len (after_is ∙ ap (λ items. map.retain_keys items (λ k. not (found k))) before_is))
+      ∙ len-parts (live clock held) found ∙ ap map.len (sym before_is) ∙ sym n_is
+
+  pub fewer : m ≤ n
+  fewer = let e = parts in omega arith
+
+  less : (x y z : ℕ) → x + y ≡ z → z - y ≡ x
+  less x y z e = omega arith
+
+  still_live : live clock before ≡ live clock held
+  still_live = ap (live clock) before_is ∙ live-later clock clock held (omega arith)
+
+  pub taken : Comes (state spec clock (live clock held)) (all_matching found (state spec clock (live clock held))) (Ok (reply.Count (n - m))) (state spec clock (live clock after))
+  taken = record {
+    answered = ap reply.Count (less _ m n parts);
+    leaves = ap (λ items. state spec clock (live clock items)) after_is
+        ∙ ap (state spec clock) (live-matching clock before (λ k. not (found k)) ∙ ap (λ items. map.retain_keys items (λ k. not (found k))) still_live);
+  }
