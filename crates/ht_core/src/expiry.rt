@@ -69,11 +69,7 @@ pub(crate) fn trim(items: &Entries, dues: &mut Dues)
 }
 
 /// Makes room for the places of one item more, if that is due some time, or any item may be.
-pub(crate) fn make_room(
-    items: &Entries,
-    dues: &mut Dues,
-    due: Option<u64>,
-) -> Result<(), NoMemory>
+pub(crate) fn make_room(items: &Entries, dues: &mut Dues, due: Option<u64>) -> Result<(), NoMemory>
     ensures same { dues.new.places ≡ dues.old.places }
     ensures spare { dues.old.spare ≤ dues.new.spare }
     ensures ok { OnOk result (IsSome due ⊎ (0 < length dues.old.places + dues.old.spare) → 2 * length items.now.entries + 68 ≤ length dues.new.places + dues.new.spare) }
@@ -86,12 +82,7 @@ pub(crate) fn make_room(
 }
 
 /// Queues the place if its item is due before the moment for which the place is queued.
-pub(crate) fn queue_if_earlier(
-    items: &Entries,
-    dues: &mut Dues,
-    place: usize,
-    queued: Option<u64>,
-)
+pub(crate) fn queue_if_earlier(items: &Entries, dues: &mut Dues, place: usize, queued: Option<u64>)
     requires others { AreQueuedBut place items.now.entries dues.old.places }
     requires queued { (moment : _) → queued ≡ Some moment → IsQueued dues.old.places place moment }
     requires spare { IsSome (due_at items.now.entries place) → 0 < dues.old.spare }

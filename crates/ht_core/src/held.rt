@@ -5,9 +5,7 @@ ghost use Rattle.ht_core.specs.Tables.{is_found_by};
 ghost use Rattle.ht_core.specs.Held.{due_of};
 
 use crate::dues::Dues;
-use crate::expiry::{
-    Entries, expire_below, expire_some, make_room, queue_if_earlier, requeue,
-};
+use crate::expiry::{Entries, expire_below, expire_some, make_room, queue_if_earlier, requeue};
 use crate::item::Item;
 use crate::name::Name;
 use indexmap::IndexMap;

@@ -39,11 +39,7 @@ impl Table {
     }
 
     /// A table without items, whose keys are hashed by this.
-    pub fn with_hasher(
-        alloc: Global,
-        spec: TableSpec,
-        state: HashState,
-    ) -> Result<Table, NoMemory>
+    pub fn with_hasher(alloc: Global, spec: TableSpec, state: HashState) -> Result<Table, NoMemory>
         ensures { IfOk result (λ t. state_of t ≡ fresh spec) }
     {
         Ok(Table {
