@@ -1,2 +1,4 @@
-pub mod Held
+pub mod Items
+pub mod Places
+pub mod Changes
 pub mod Outcomes

@@ -21,7 +21,7 @@ use Rattle.ht_core.specs.declared.operation.TabReply.{TabReply}
 use Rattle.ht_core.specs.declared.operation.TabReply.TheVariants as reply
 use Rattle.ht_core.specs.declared.operation.TabRecord.{TabRecord}
 use Rattle.ht_core.specs.Tables.{by_bytes, Items, TableState, Outcome, Comes, IsStep, at, outcome, done, answers, assigned, removed, is_full, with_room, set_to, count_by, counted, stepped, counted_from, limited, limit_seconds, reading, left, is_too_long, key_of, may_change, is_refusal, is_found_by, all_matching, all_keys, due_after, is_long, present, initial_reply}
-use Rattle.ht_core.proofs.Held.{total, exact, equal, get-live}
+use Rattle.ht_core.proofs.Items.{total, exact, equal, get-live}
 
 unlike : (b : Bool) → (b ≡ true → ⊥) → b ≡ false
 unlike true f = absurd (f refl)

@@ -1,2 +1,4 @@
 pub mod Tables
+pub mod Queues
+pub mod Held
 pub mod Shown

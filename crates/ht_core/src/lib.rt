@@ -5,6 +5,9 @@
 //! operation answers and leaves is `specs/Tables.antt`.
 #![tactic(auto)]
 
+mod dues;
+mod expiry;
+mod held;
 mod item;
 pub mod laws;
 mod name;

@@ -1,16 +1,16 @@
-//! Keys in the order of their bytes.
+//! Keys by which items are found.
 
-ghost use Rattle.std.specs.Prelude.{◌≡◌, Some, refl};
+ghost use Rattle.std.specs.Prelude.{◌≡◌, ◌∷◌, []};
 ghost use Rattle.std.specs.Str.{bytes_eq};
-ghost use Rattle.std.specs.Ordering.{nat_cmp};
-ghost use Rattle.std.specs.Cmp.{partial_equiv_from_equiv, unsigned_ties, partial_order_from_agreeing_total};
-ghost use Rattle.std.specs.Cmp.Lexicographic.{slice_cmp, nat_list_cmp_total, nat_list_eq_equiv, lists_ties};
+ghost use Rattle.std.specs.Cmp.{partial_equiv_from_equiv};
+ghost use Rattle.std.specs.Cmp.Lexicographic.{nat_list_eq_equiv, bytes_decides};
+ghost use Rattle.std.proofs.Common.{ap};
 
 use pv_values::Key;
-use std::cmp::Ordering;
+use std::hash::{Hash, Hasher};
 use std::marker::Model;
 
-/// A key that a table holds. It wraps the key only to have an order, that of the bytes.
+/// A key that a table holds. It wraps the key only to be compared and hashed by its bytes.
 #[derive(Debug, Drop)]
 pub(crate) struct Name {
     key: Key,
@@ -52,33 +52,12 @@ impl Eq for Name {
     ghost laws = { nat_list_eq_equiv };
 }
 
-impl PartialOrd for Name {
-    ghost partial_cmp = { λ x y. Some (slice_cmp nat_cmp x y) };
+impl Hash for Name {
+    ghost hash_input = { λ n. n ∷ [] };
 
-    ghost laws = { partial_order_from_agreeing_total (slice_cmp nat_cmp) nat_list_cmp_total (λ x y. refl) (λ x y. lists_ties nat_cmp unsigned_ties x y) };
+    ghost respects_eq = { λ x y h. ap (λ n. n ∷ []) ((bytes_decides x y).0 h) };
 
-    fn partial_cmp(&self, other: &Name) -> Option<Ordering> {
-        Some(self.cmp(other))
+    fn hash<H: Hasher>(&self, state: &mut H) {
+        state.write(self.bytes());
     }
-}
-
-impl Ord for Name {
-    ghost cmp = { slice_cmp nat_cmp };
-
-    ghost total = { nat_list_cmp_total };
-
-    ghost matches_partial_cmp = { λ x y. refl };
-
-    ghost matches_eq = { λ x y. lists_ties nat_cmp unsigned_ties x y };
-
-    fn cmp(&self, other: &Name) -> Ordering {
-        order(self.bytes(), other.bytes())
-    }
-}
-
-/// Both at one lifetime, as std's own comparison of slices takes them.
-fn order<'a>(a: &'a [u8], b: &'a [u8]) -> Ordering
-    ensures { result ≡ slice_cmp nat_cmp a.now b.now }
-{
-    Ord::cmp(&a, &b)
 }

@@ -7,12 +7,13 @@ ghost use Rattle.ht_core.specs.declared.operation.TabReply.TheVariants as reply;
 ghost use Rattle.ht_core.specs.Tables.{fresh, at, holding, due_after, reading, left, limit_seconds, limited, counted_from, stepped, is_full, set_to, count_by, all_matching, all_keys, is_too_long, is_found_by, is_refusal, done, Comes, IsStep};
 ghost use Rattle.ht_core.specs.Shown.{state_of};
 
+use crate::held::Held;
 use crate::item::{Item, due_after, limit_seconds, seconds_left};
 use crate::name::Name;
 use crate::operation::{TabOp, TabReply};
+use key_hash::HashState;
 use pv_values::{PatternMatcher, Patterns, TableSpec, Val};
 use std::alloc::{AllocError as NoMemory, Global};
-use std::collections::BTreeMap;
 
 /// The longest key, and the longest text of a value, in bytes.
 const LONGEST: usize = 512;
@@ -26,18 +27,25 @@ pub struct Table {
     spec: TableSpec,
     clock: u64,
     /// The live items, and some that are no longer live.
-    items: BTreeMap<Name, Item>,
+    held: Held,
 }
 
 impl Table {
-    /// A table without items.
+    /// A table without items. Its keys are hashed with a fixed seed.
     pub fn new(alloc: Global, spec: TableSpec) -> Result<Table, NoMemory>
+        ensures { IfOk result (λ t. state_of t ≡ fresh spec) }
+    {
+        Table::with_hasher(alloc, spec, HashState::Fixed)
+    }
+
+    /// A table without items, whose keys are hashed by this.
+    pub fn with_hasher(alloc: Global, spec: TableSpec, state: HashState) -> Result<Table, NoMemory>
         ensures { IfOk result (λ t. state_of t ≡ fresh spec) }
     {
         Ok(Table {
             spec,
             clock: 0,
-            items: BTreeMap::new(alloc),
+            held: Held::new(alloc, state),
         })
     }
 
@@ -62,11 +70,12 @@ impl Table {
         self.answer(alloc, op, patterns)
     }
 
-    /// Sets the clock to this moment, unless it is later.
+    /// Sets the clock to this moment, unless it is later, and takes out a few items that are no longer live.
     fn rise(&mut self, now: u64)
         ensures { state_of self.new ≡ at now (state_of self.old) }
     {
         self.clock = self.clock.max(now);
+        self.held.expire(self.clock);
     }
 
     /// Does the operation, of which nothing is too long.
@@ -85,7 +94,7 @@ impl Table {
             TabOp::Inc(key) => self.count(Name::of(key), 1),
             TabOp::Dec(key) => self.count(Name::of(key), -1),
             TabOp::Left(key) => Ok(self.left(&Name::of(key))),
-            TabOp::Limit(key, seconds) => Ok(self.limit(&Name::of(key), seconds)),
+            TabOp::Limit(key, seconds) => self.limit(&Name::of(key), seconds),
             TabOp::RemoveMatching(number) => {
                 let matcher = matcher_of(alloc, number, patterns)?;
                 Ok(self.remove_matching(matcher))
@@ -98,7 +107,7 @@ impl Table {
     fn item(&self, name: &Name) -> Option<&Item>
         ensures { option_copied result ≡ map.get (state_of self.now).items name.now }
     {
-        match self.items.get(name) {
+        match self.held.get(name) {
             Some(item) if item.is_live(self.clock) => Some(item),
             _ => None,
         }
@@ -131,7 +140,7 @@ impl Table {
         ensures answered { result ≡ reply.Done }
         ensures leaves { state_of self.new ≡ holding (state_of self.old) (map.remove (state_of self.old).items name.now) }
     {
-        self.items.remove(name);
+        self.held.remove(name);
         TabReply::Done
     }
 
@@ -171,49 +180,35 @@ impl Table {
         }
     }
 
-    fn limit(&mut self, name: &Name, limit: i64) -> TabReply
-        ensures { Comes (state_of self.old) (limited (state_of self.old) name.now (limit_seconds limit) (map.get (state_of self.old).items name.now)) (Ok result) (state_of self.new) }
+    fn limit(&mut self, name: &Name, limit: i64) -> Result<TabReply, NoMemory>
+        ensures { Comes (state_of self.old) (limited (state_of self.old) name.now (limit_seconds limit) (map.get (state_of self.old).items name.now)) result (state_of self.new) }
     {
         match limit_seconds(limit) {
             Some(seconds) => self.give_seconds(name, seconds),
-            None => TabReply::Null,
+            None => Ok(TabReply::Null),
         }
     }
 
     /// The item lives so many seconds from now.
-    fn give_seconds(&mut self, name: &Name, seconds: u64) -> TabReply
-        ensures { Comes (state_of self.old) (limited (state_of self.old) name.now (Some seconds) (map.get (state_of self.old).items name.now)) (Ok result) (state_of self.new) }
+    fn give_seconds(&mut self, name: &Name, seconds: u64) -> Result<TabReply, NoMemory>
+        ensures { Comes (state_of self.old) (limited (state_of self.old) name.now (Some seconds) (map.get (state_of self.old).items name.now)) result (state_of self.new) }
     {
         if self.item(name).is_none() {
-            return TabReply::Null;
+            return Ok(TabReply::Null);
         }
-        let due = due_after(self.clock, seconds);
-        if let Some(item) = self.items.get_mut(name) {
-            item.due = due;
-        }
-        TabReply::Done
+        self.held.set_due(name, due_after(self.clock, seconds))?;
+        Ok(TabReply::Done)
     }
 
-    /// A new key would be one too many. Only where the map is full with the items that are no longer live, these are taken out
-    /// and the others counted; else this is one look-up.
+    /// A new key would be one too many.
     fn is_full(&mut self, name: &Name) -> bool
         ensures full { result ≡ is_full (state_of self.old) name.now }
         ensures same { state_of self.new ≡ state_of self.old }
     {
-        if self.item(name).is_some() || self.items.len() < MOST_ITEMS {
+        if self.held.len() < MOST_ITEMS || self.item(name).is_some() {
             return false;
         }
-        self.live_len() >= MOST_ITEMS
-    }
-
-    /// Takes out the items that are no longer live, and counts the others.
-    fn live_len(&mut self) -> usize
-        ensures len { result ≡ map.len (state_of self.old).items }
-        ensures same { state_of self.new ≡ state_of self.old }
-    {
-        let clock = self.clock;
-        self.items.retain(|_, item| item.is_live(clock));
-        self.items.len()
+        !self.held.is_below(self.clock, MOST_ITEMS)
     }
 
     /// Gives the key a value, whose life starts anew.
@@ -222,23 +217,22 @@ impl Table {
         ensures err { OnErr result (state_of self.new ≡ state_of self.old) }
     {
         let due = due_after(self.clock, self.spec.autoexpire);
-        self.items.insert(name, Item { value, due })?;
-        Ok(())
+        self.held.put(name, Item { value, due })
     }
 
-    fn remove_matching(&mut self, mut matcher: Option<PatternMatcher>) -> TabReply
+    fn remove_matching(&mut self, matcher: Option<PatternMatcher>) -> TabReply
         ensures { Comes (state_of self.old) (all_matching (is_found_by matcher.entry) (state_of self.old)) (Ok result) (state_of self.new) }
     {
-        let before = self.live_len();
-        self.items.retain(|name, _| !is_found(&mut matcher, name));
-        TabReply::Count((before - self.live_len()) as u64)
+        let before = self.held.keep_live(self.clock);
+        self.held.remove_matching(matcher);
+        TabReply::Count((before - self.held.len()) as u64)
     }
 
     fn reset(&mut self) -> TabReply
         ensures { Comes (state_of self.old) (all_keys (state_of self.old)) (Ok result) (state_of self.new) }
     {
-        let before = self.live_len();
-        self.items.clear();
+        let before = self.held.keep_live(self.clock);
+        self.held.clear();
         TabReply::Count(before as u64)
     }
 }
@@ -254,17 +248,6 @@ fn matcher_of(
     match patterns.as_slice().get(number as usize) {
         Some(pattern) => Ok(Some(pattern.matcher(alloc)?)),
         None => Ok(None),
-    }
-}
-
-/// The pattern, if there is one, matches in the key.
-fn is_found(matcher: &mut Option<PatternMatcher>, name: &Name) -> bool
-    ensures found { result ≡ is_found_by matcher.old name.now }
-    ensures same { matcher.new ≡ matcher.old }
-{
-    match matcher {
-        Some(matcher) => matcher.is_match(name.bytes()),
-        None => false,
     }
 }
 

@@ -1,6 +1,12 @@
-//! The operations on a table, case by case.
+//! The operations on a table, case by case, and beside the plain program.
+
+ghost use Rattle.std.specs.Prelude.{◌^◌, ◌<◌};
+
+mod expiry;
+mod plain;
 
 use super::{Key, TabOp, TabReply, Table};
+use plain::Plain;
 use pv_values::{Pattern, Patterns, TableSpec, Text, Val};
 use std::alloc::{AllocError, Global};
 use std::process::Abort;
@@ -39,7 +45,7 @@ const KEY_512: &[u8] = &[b'k'; 512];
 
 const KEY_513: &[u8] = &[b'k'; 513];
 
-fn key(alloc: Global, bytes: &[u8]) -> Result<Key, AllocError> {
+pub(crate) fn key(alloc: Global, bytes: &[u8]) -> Result<Key, AllocError> {
     Ok(Key::of(Text::from_slice(alloc, bytes)?))
 }
 
@@ -84,12 +90,8 @@ fn spec(autoexpire: u64, initval: Option<i64>) -> TableSpec {
     }
 }
 
-fn play(
-    rt: &impl Abort,
-    alloc: Global,
-    spec: TableSpec,
-    calls: &[(u64, Op, Want)],
-) -> Result<(), Fail> {
+/// The patterns of the calls: keys that begin with an `a`, and keys with a `b`.
+fn patterns_of(rt: &impl Abort, alloc: Global) -> Result<Patterns, AllocError> {
     let mut list = Vec::new(alloc);
     for source in [b"^a".as_slice(), b"b".as_slice()] {
         match Pattern::new(alloc, source) {
@@ -97,7 +99,16 @@ fn play(
             Err(_) => assert!(rt; false),
         }
     }
-    let patterns = Patterns::of(list);
+    Ok(Patterns::of(list))
+}
+
+fn play(
+    rt: &impl Abort,
+    alloc: Global,
+    spec: TableSpec,
+    calls: &[(u64, Op, Want)],
+) -> Result<(), Fail> {
+    let patterns = patterns_of(rt, alloc)?;
     let mut table = Table::new(alloc, spec)?;
     for &(now, op, want) in calls {
         let reply = table.apply(alloc, operation(alloc, op)?, &patterns, now)?;
@@ -332,6 +343,123 @@ fn a_table_has_100_000_live_items_at_most(rt: HostRuntime) -> Result<(), Fail> {
     for (now, op, want) in calls {
         let reply = table.apply(alloc, operation(alloc, op)?, &patterns, now)?;
         assert!(rt; is_wanted(&reply, want), "at {now} {op:?} {want:?}");
+    }
+    Ok(())
+}
+
+/// The keys of the generated calls.
+const KEYS: [&[u8]; 16] = [
+    b"a", b"ab", b"abc", b"b", b"ba", b"c", b"cb", b"d", b"e", b"f", b"g", b"h", b"", b"0", b"00",
+    KEY_513,
+];
+
+/// By how much time goes on from one generated call to the next.
+const STEPS: [u64; 16] = [
+    0, 0, 0, 0, 0, 0, 1, 1, 499, 500, 999, 1_000, 1_001, 9_999, 10_000, 10_001,
+];
+
+/// A number that looks drawn at random, below 2^31.
+pub(crate) fn drawn(state: &mut u64) -> u64
+    ensures { result < 2 ^ 31 }
+{
+    *state = state
+        .wrapping_mul(6_364_136_223_846_793_005)
+        .wrapping_add(1_442_695_040_888_963_407);
+    *state >> 33
+}
+
+/// A generated call.
+fn generated(state: &mut u64) -> Op {
+    let key = KEYS[(drawn(state) % 16) as usize];
+    let way = drawn(state) % 64;
+    let number = (drawn(state) % 12) as i64;
+    match way {
+        0..=9 => Op::Get(key),
+        10..=14 => Op::SetInt(key, number),
+        15..=16 => Op::SetText(key, b"text"),
+        17..=21 => Op::Remove(key),
+        22..=23 => Op::SetNull(key),
+        24..=31 => Op::Inc(key),
+        32..=35 => Op::Dec(key),
+        36..=43 => Op::Left(key),
+        44..=61 => Op::Limit(key, number),
+        62 => Op::RemoveMatching((number % 3) as u32),
+        _ => Op::Reset,
+    }
+}
+
+/// The kinds of what is answered.
+fn kind(reply: &TabReply) -> usize
+    ensures { result < 7 }
+{
+    match reply {
+        TabReply::Value(_) => 0,
+        TabReply::Null => 1,
+        TabReply::Done => 2,
+        TabReply::Full => 3,
+        TabReply::TooLong => 4,
+        TabReply::NotNumber => 5,
+        TabReply::Count(_) => 6,
+    }
+}
+
+fn is_same(reply: &TabReply, other: &TabReply) -> bool {
+    match (reply, other) {
+        (TabReply::Value(Val::Int(n)), TabReply::Value(Val::Int(m))) => n == m,
+        (TabReply::Value(Val::Text(s)), TabReply::Value(Val::Text(t))) => s.bytes() == t.bytes(),
+        (TabReply::Value(_), _) => false,
+        (TabReply::Count(n), TabReply::Count(m)) => n == m,
+        _ => kind(reply) == kind(other),
+    }
+}
+
+/// Makes so many calls of both, and asserts that they answer the same. Counts the answers of each kind.
+fn play_both(
+    rt: &impl Abort,
+    alloc: Global,
+    spec: TableSpec,
+    state: &mut u64,
+    answers: &mut [u32; 7],
+) -> Result<(), Fail> {
+    let patterns = patterns_of(rt, alloc)?;
+    let mut table = Table::new(alloc, spec)?;
+    let mut plain = Plain::new(alloc, spec);
+    let mut now = 0u64;
+    for call in 0..4_000u32 {
+        let op = generated(state);
+        now = now.wrapping_add(STEPS[(drawn(state) % 16) as usize]);
+        let reply = table.apply(alloc, operation(alloc, op)?, &patterns, now)?;
+        let wanted = plain.apply(alloc, operation(alloc, op)?, &patterns, now)?;
+        assert!(rt;
+            is_same(&reply, &wanted),
+            "call {call} at {now} {op:?}: {reply:?}, not {wanted:?}"
+        );
+        let count = &mut answers[kind(&reply)];
+        *count = count.saturating_add(1);
+    }
+    Ok(())
+}
+
+#[test]
+fn table_answers_as_the_plain_program(rt: HostRuntime) -> Result<(), Fail> {
+    let (mut state, mut answers) = (1, [0; 7]);
+    for (autoexpire, initval) in [
+        (0, None),
+        (1, Some(3)),
+        (10, None),
+        (10, Some(-1)),
+        (11, None),
+    ] {
+        play_both(
+            &rt,
+            rt.alloc(),
+            spec(autoexpire, initval),
+            &mut state,
+            &mut answers,
+        )?;
+    }
+    for (kind, count) in answers.iter().enumerate() {
+        assert!(rt; *count > 50 || kind == 3, "{answers:?}");
     }
     Ok(())
 }

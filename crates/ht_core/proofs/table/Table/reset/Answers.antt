@@ -1,15 +1,14 @@
 use Rattle.std.proofs.Common.{ap, ◌∙◌}
 use Rattle.std.specs.FinMap as map
 use Rattle.ht_core.specs.declared.operation.TabReply.TheVariants as reply
-use Rattle.ht_core.specs.Tables.{TableState}
-use Rattle.ht_core.proofs.Held.{state, shown-empty}
+use Rattle.ht_core.specs.Tables.{live}
+use Rattle.ht_core.proofs.Items.{state, live-empty}
 use Rattle.ht_core.proofs.table.Table.reset.Goals as goal
 
 pub returns : goal.returns
 returns c =
-    let s = c.live_len-before.new.self in
+    let s = c.args.self.now in
     record {
-      answered = ap reply.Count c.live_len-before.ensures.len;
-      leaves = ap (state s.spec s.clock) (shown-empty s.clock c.clear.new.self c.clear.ensures.empty)
-          ∙ ap (λ (t : TableState). state t.spec t.clock map.empty) c.live_len-before.ensures.same;
+      answered = ap reply.Count (c.keep_live-before.ensures.len ∙ ap (λ items. map.len items) c.keep_live-before.ensures.live);
+      leaves = ap (λ items. state s.spec s.clock (live s.clock items)) c.clear.ensures ∙ ap (state s.spec s.clock) (live-empty s.clock);
     }
