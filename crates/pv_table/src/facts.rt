@@ -18,8 +18,8 @@ pub const BLOCKS: usize = 24;
 #[derive(Drop)]
 pub struct RunData {
     pub facts: Facts,
-    /// Taken by `t_relay`, two for each target.
-    pub blocks: ArrayVec<Block, BLOCKS>,
+    /// Taken by `t_relay`, two for each target. Each is there.
+    pub blocks: ArrayVec<Option<Block>, BLOCKS>,
 }
 
 /// What a run knows and has decided. Contracts see it as plain data. A field names the function of the script that sets
