@@ -1,0 +1,4 @@
+mod Stateless
+mod Played
+mod OnItsWay
+mod Decisions
