@@ -13,13 +13,18 @@ use Rattle.host_meaning.specs.Run.{Received, RunState, is_readable}
 use Rattle.host_meaning.specs.Host.{HostEnd, Finished, run_of}
 use Rattle.txn_dialogue.specs.declared.mark.Mark.{Mark}
 use Rattle.txn_dialogue.specs.declared.mark.Mark.TheVariants.{Handled, Dropped}
+use Rattle.txn_dialogue.specs.declared.mark.Cause.TheVariants as cause
+use Rattle.txn_dialogue.specs.Rounds.{is_drop}
+use Rattle.host_meaning.specs.Responses.{is_ack}
 use Rattle.txn_dialogue.specs.Slots.{Proxy}
 use Rattle.txn_dialogue.specs.Runs.{around_of, beginning}
 use Rattle.txn_dialogue.specs.Loose.{Handling, OfSlot, Runs, Answers, Drops, malformed, LooseEnd, LooseDone, loosely_sending, loosely_ended, loose_dialogue}
 use Rattle.txn_dialogue.specs.LooseRuns.{loose_facts, loosely_sent, loose_mark, loose_response, outcome_sent, mark_by, silent_mark}
 use Rattle.sip_msg.specs.declared.basis.Basis.{Basis}
 use Rattle.sim_text.specs.declared.item.TraceItem.{TraceItem}
-use Rattle.sim_text.specs.declared.item.TraceItem.TheVariants.{Out}
+use Rattle.sim_text.specs.declared.item.TraceItem.TheVariants.{Out, Drop}
+use Rattle.sim_text.specs.declared.item.Cause.TheVariants as shown
+use Rattle.sim_text.specs.Trace.{item_text, items_text}
 use Rattle.solo_run.specs.Objects.{Tables}
 use Rattle.solo_run.specs.Solo.{Played, played, shown_mark, shown_end}
 use Rattle.solo_run.specs.Running.{HasNoTransaction, IsStateless, shown_decision, shown_response, shown_handling}
@@ -56,6 +61,18 @@ module _ (patterns : List (List ℕ)) (at : ℕ) (tables : Tables) where
 
 -- ---- a whole datagram
 
+-- a datagram that runs no block
+abbrev pub RunsNoBlock : Handling → Type 0
+RunsNoBlock (OfSlot slot generation what) = Unit {0}
+RunsNoBlock (Runs request) = ⊥
+RunsNoBlock (Answers to text fits) = Unit {0}
+RunsNoBlock (Drops why) = Unit {0}
+
+-- a malformed datagram runs no block
+pub malformed_runs_none : (b : List ℕ) (source : Addr) (basis : Option Basis) → RunsNoBlock (malformed b source basis)
+malformed_runs_none b source None = tt
+malformed_runs_none b source (Some basis) = tt
+
 module _ (patterns : List (List ℕ)) (at : ℕ) where
   pub of_run : (p : Proxy) (r : Received) (source : Addr) (tables : Tables) (s : RunState) (how : How)
       → (let run = played patterns at (run_of p.script p.script.request (around_of p r) (beginning (loose_facts p r source))) tables in
@@ -67,16 +84,11 @@ module _ (patterns : List (List ℕ)) (at : ℕ) where
       let last : Shows at (played patterns at (loosely_ended p r source run.end) run.tables) (shown_decision at r source s.facts how s.facts.outcome) run.tables =
       subst (λ (end : HostEnd). Shows at (played patterns at (loosely_ended p r source end) run.tables) (shown_decision at r source s.facts how s.facts.outcome) run.tables)
       (sym e) (decided patterns at run.tables p r source s how h) in
+      let rest = played patterns at (loosely_ended p r source run.end) run.tables in
       record {
-        shown = rw whole (append_assoc ∙ ap (λ (items : List TraceItem). run.shown ++ items) last.shown);
+        shown = rw whole (append_assoc run.shown rest.shown (shown_end at rest.end) ∙ ap (λ (items : List TraceItem). run.shown ++ items) last.shown);
         tables_are = rw whole last.tables_are;
       }
-
-  abbrev pub RunsNoBlock : Handling → Type 0
-  RunsNoBlock (OfSlot slot generation what) = Unit {0}
-  RunsNoBlock (Runs request) = ⊥
-  RunsNoBlock (Answers to text fits) = Unit {0}
-  RunsNoBlock (Drops why) = Unit {0}
 
   pub of_no_run : (p : Proxy) (source : Addr) (h : Handling) (tables : Tables) → RunsNoBlock h
       → Shows at (played patterns at (loose_dialogue p source h) tables) (shown_handling at h) tables
@@ -86,7 +98,16 @@ module _ (patterns : List (List ℕ)) (at : ℕ) where
   of_no_run p source (Answers to text false) tables n = record { shown = refl; tables_are = refl }
   of_no_run p source (Drops why) tables n = record { shown = refl; tables_are = refl }
 
-  -- a malformed datagram runs no block
-  pub malformed_runs_none : (b : List ℕ) (source : Addr) (basis : Option Basis) → RunsNoBlock (malformed b source basis)
-  malformed_runs_none b source None = tt
-  malformed_runs_none b source (Some basis) = tt
+-- ---- how the code says it
+
+-- nothing was decided
+pub nothing_decided : (at : ℕ) (r : Received) (source : Addr) (f : Facts) (how : How) → f.outcome ≡ Undecided → HasNoTransaction f
+    → item_text (Drop at (if is_drop how then shown.ScriptDrop else shown.ScriptSilent)) ≡ items_text (shown_decision at r source f how f.outcome)
+nothing_decided at r source f how e h =
+    rw (e, h.relay) (by_ack (is_ack r) (is_drop how)) where
+  by_ack : (ack drop : Bool) → item_text (Drop at (if drop then shown.ScriptDrop else shown.ScriptSilent))
+      ≡ items_text (shown_mark at (if ack && false then Dropped cause.AckUnroutable else if drop then Dropped cause.ScriptDrop else Dropped cause.ScriptSilent))
+  by_ack true true = sym (append-nil (item_text (Drop at shown.ScriptDrop)))
+  by_ack true false = sym (append-nil (item_text (Drop at shown.ScriptSilent)))
+  by_ack false true = sym (append-nil (item_text (Drop at shown.ScriptDrop)))
+  by_ack false false = sym (append-nil (item_text (Drop at shown.ScriptSilent)))

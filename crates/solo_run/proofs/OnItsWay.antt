@@ -37,7 +37,7 @@ module _ (l : Lent) (at : ℕ) (script : Script) (s : RunState) (old : Objects) 
     pub waits : HostWaits l.loaded.now (around_of l) run next
     pub stateless : (x : Heard) → RunStateless (next x)
     pub done : List TraceItem
-    pub goes : played_run l at script s (tables_of old) ≡ behind done (played l.loaded.now.patterns at (next told) (tables_of new))
+    pub goes : played_run l.loaded.now.patterns (around_of l) at script s (tables_of old) ≡ behind done (played l.loaded.now.patterns at (next told) (tables_of new))
     pub trace : new.trace.items ≡ old.trace.items ++ items_text done
 
   pub begins : (run : HostRun) (told : Heard) → HasNoTransaction s.facts
@@ -69,7 +69,7 @@ module _ (l : Lent) (at : ℕ) (script : Script) (s : RunState) (old : Objects) 
 
   pub ends : (run run' : HostRun) (told : Heard) (new : Objects) (d : RunData) (how : How) → IsOn run told new
       → ((next : Heard → HostCourse) → HostWaits l.loaded.now (around_of l) run next → IsHostWent l.loaded.now (around_of l) (next told) run' went.Ended)
-      → d ≡ state_in run' → how ≡ how_of run' → RunsTo l at script s old d how new
+      → d ≡ state_in run' → how ≡ how_of run' → RunsTo l.loaded.now.patterns (around_of l) at script s old d how new
   ends run run' told new d how on went e f =
       let end = ends_so l.loaded.now.patterns at l.loaded.now (around_of l) (on.next told) run' (tables_of new) (on.stateless told) (went on.next on.waits) in
       let whole = on.goes ∙ ap (behind on.done) end.ends in

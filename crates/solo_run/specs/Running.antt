@@ -13,10 +13,9 @@ use Rattle.pv_table.specs.declared.facts.Facts.{Facts}
 use Rattle.pv_table.specs.declared.facts.Outcome.{Outcome}
 use Rattle.pv_table.specs.declared.facts.Outcome.TheVariants.{Undecided, Stateless, Answered, Relayed, Suspended}
 use Rattle.pv_table.specs.declared.facts.RunData.{RunData}
-use Rattle.cfg_code.specs.Flat.{FlatScript}
 use Rattle.host_meaning.specs.declared.ask.Asked.{Asked}
 use Rattle.host_meaning.specs.declared.settings.Settings.{Settings}
-use Rattle.host_meaning.specs.Run.{Received, RunState, is_readable}
+use Rattle.host_meaning.specs.Run.{Received, Around, RunState, is_readable}
 use Rattle.host_meaning.specs.Host.{HostEnd, Finished, run_of}
 use Rattle.txn_dialogue.specs.declared.mark.Mark.TheVariants.{Handled, Dropped}
 use Rattle.txn_dialogue.specs.declared.mark.Cause.TheVariants as cause
@@ -24,15 +23,13 @@ use Rattle.txn_dialogue.specs.Slots.{Proxy, request_uri}
 use Rattle.txn_dialogue.specs.Loose.{Handling, OfSlot, Runs, Answers, Drops, LooseEnd, loose_dialogue}
 use Rattle.txn_dialogue.specs.LooseRuns.{loose_response, silent_mark}
 use Rattle.script_host.specs.declared.ask.Answer.{Answer}
-use Rattle.script_host.specs.declared.lent.Lent.{Lent}
 use Rattle.script_host.specs.Asking.{as_heard}
-use Rattle.script_host.specs.Lending.{around_of, state_of}
+use Rattle.script_host.specs.Lending.{state_of}
 use Rattle.sim_text.specs.declared.item.TraceItem.{TraceItem}
 use Rattle.sim_text.specs.declared.item.TraceItem.TheVariants.{Out}
 use Rattle.sim_text.specs.Trace.{items_text}
 use Rattle.solo_run.specs.declared.objects.Objects.{Objects}
 use Rattle.solo_run.specs.Objects.{Tables, answered}
-use Rattle.solo_run.specs.declared.run.Worker.{Worker}
 use Rattle.solo_run.specs.Solo.{Played, played, shown_ask, shown_cause, shown_mark, shown_end, turn, shown_turn}
 
 abbrev pub tables_of : Objects → Tables
@@ -63,8 +60,8 @@ facts_at_first parameters r source =
     undecided_facts block.Request source (request_uri r) (record { invite = parameters.fr_inv_timer; other = parameters.fr_timer })
 
 -- a run with these objects
-abbrev pub played_run : Lent → ℕ → Script → RunState → Tables → Played HostEnd
-played_run l at script s tables = played l.loaded.now.patterns at (run_of script script.request (around_of l) s) tables
+abbrev pub played_run : List (List ℕ) → Around → ℕ → Script → RunState → Tables → Played HostEnd
+played_run patterns a at script s tables = played patterns at (run_of script script.request a s) tables
 
 abbrev pub IsStateless : Outcome → Type 0
 IsStateless Undecided = Unit {0}
@@ -80,10 +77,11 @@ pub record HasNoTransaction (f : Facts) : Type 0 where
   pub relay : f.has_called_relay ≡ false
 
 -- the run came to these data and this end
-pub record RunsTo (l : Lent) (at : ℕ) (script : Script) (s : RunState) (old : Objects) (data : RunData) (how : How) (new : Objects) : Type 0 where
-  pub end : (played_run l at script s (tables_of old)).end ≡ Finished (state_of data) how
-  pub stateless : HasNoTransaction data.facts
-  pub shown : AreShown (played_run l at script s (tables_of old)).shown (played_run l at script s (tables_of old)).tables old new
+pub record RunsTo (patterns : List (List ℕ)) (a : Around) (at : ℕ) (script : Script) (s : RunState) (old : Objects) (end_data : RunData) (how : How)
+    (new : Objects) : Type 0 where
+  pub end : (played_run patterns a at script s (tables_of old)).end ≡ Finished (state_of end_data) how
+  pub stateless : HasNoTransaction end_data.facts
+  pub shown : AreShown (played_run patterns a at script s (tables_of old)).shown (played_run patterns a at script s (tables_of old)).tables old new
 
 -- what is shown of what a run decided: the response that was sent, or why the request was dropped
 abbrev pub shown_response : ℕ → Addr → List ℕ → List TraceItem
@@ -108,9 +106,3 @@ AreShownBy at p old new = AreShown (p.shown ++ shown_end at p.end) p.tables old 
 
 abbrev pub IsTurn : Proxy → Arrival → Objects → Objects → Type 0
 IsTurn p a old new = AreShown (shown_turn p a (tables_of old)) (turn p a (tables_of old)).tables old new
-
--- the worker is lent these, and its workshop is for this script
-pub record IsLent (loaded : FlatScript) (settings : Settings) (w : Worker) : Type 0 where
-  pub loaded_is : w.loaded.now ≡ loaded
-  pub settings_is : w.settings.now ≡ settings
-  pub shop : w.shop ≡ loaded.patterns

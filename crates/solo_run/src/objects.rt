@@ -65,7 +65,9 @@ impl Objects {
     ) -> Result<Answer, NoMemory>
         ensures { IfOk result (λ a. IsAnswered patterns.now at self.old (AsksTable number op) a self.new) }
     {
-        let table = self.tables.get_mut(number as usize).ok_or(NoMemory)?;
+        let Some(table) = self.tables.get_mut(number as usize) else {
+            return Err(NoMemory);
+        };
         let reply = table.apply(alloc, op, patterns, at)?;
         Ok(Answer::Table(reply))
     }

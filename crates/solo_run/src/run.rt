@@ -7,20 +7,21 @@ ghost use Rattle.solo_run.specs.Objects.{fresh_tables};
 ghost use Rattle.sip_msg.specs.Table.{Reads};
 ghost use Rattle.host_meaning.specs.Run.{received};
 ghost use Rattle.txn_dialogue.specs.Loose.{Runs};
-ghost use Rattle.solo_run.specs.Running.{AreShownBy, IsLent, IsTurn, played_at, proxy_of, tables_of};
+ghost use Rattle.solo_run.specs.Running.{AreShownBy, IsTurn, played_at, proxy_of, tables_of};
 ghost use Rattle.solo_run.specs.Solo.{listening, solo_settings, solo_trace};
 
 use crate::datagram::{is_keepalive, refuse};
 use crate::objects::Objects;
-use crate::request::{conclude, data_at_first, run_block};
+use crate::request::{conclude, data_at_first, run_over};
 use crate::rooms::Outgoing;
 use cfg_code::Loaded;
 use cfg_tree::Listen;
 use host_meaning::{HostAddress, Hosts, Settings};
 use outside_ports::{Addr, Arrival};
-use script_host::{Lent, MessageView, Workshop};
+use script_host::Workshop;
 use sim_text::{Cause, Scenario, push_drop, push_end};
 use sip_msg::{Message, Start};
+use txn_dialogue::laws::a_reading_is_the_message;
 use std::alloc::{AllocError as NoMemory, Global};
 
 /// How many transactions and how many blocks a proxy has where a scenario doesn't say.
@@ -37,11 +38,13 @@ pub fn solo_trace(alloc: Global, loaded: &Loaded, scenario: Scenario) -> Result<
         end,
     } = scenario;
     let settings = settings_of(loaded, hosts);
-    let mut worker = Worker::new(alloc, loaded, &settings)?;
+    let mut shop = Workshop::new(alloc, loaded)?;
+    let mut worker = Worker::new(alloc, loaded)?;
     for arrival in arrivals.iter() {
-        worker.handle(alloc, arrival)?;
+        worker.handle(alloc, loaded, &settings, &mut shop, arrival)?;
     }
-    let Objects { mut trace, .. } = worker.objects;
+    let Worker { objects, .. } = worker;
+    let Objects { mut trace, .. } = objects;
     push_end(alloc, &mut trace, end, 0)?;
     Ok(trace)
 }
@@ -75,30 +78,19 @@ fn listening(listen: Option<Listen>) -> Addr
 
 /// The worker of the run.
 #[derive(Drop)]
-struct Worker<'p> {
-    loaded: &'p Loaded,
-    settings: &'p Settings,
-    shop: Workshop<'p>,
+pub(crate) struct Worker {
     /// The datagram that is handled.
     message: Message,
     room: Outgoing,
-    objects: Objects,
+    pub(crate) objects: Objects,
 }
 
-impl<'p> Worker<'p> {
-    fn new(
-        alloc: Global,
-        loaded: &'p Loaded,
-        settings: &'p Settings,
-    ) -> Result<Worker<'p>, NoMemory>
-        ensures lent { IfOk result (IsLent loaded.now settings.now) }
+impl Worker {
+    fn new(alloc: Global, loaded: &Loaded) -> Result<Worker, NoMemory>
         ensures tables { IfOk result (λ w. tables_of w.objects ≡ fresh_tables loaded.now.tables) }
         ensures trace { IfOk result (λ w. w.objects.trace.items ≡ []) }
     {
         Ok(Worker {
-            loaded,
-            settings,
-            shop: Workshop::new(alloc, loaded)?,
             message: Message::room(),
             room: Outgoing::new(alloc)?,
             objects: Objects::new(alloc, loaded.tables.as_slice())?,
@@ -106,49 +98,70 @@ impl<'p> Worker<'p> {
     }
 
     /// Handles a datagram, and shows what came of it.
-    fn handle(&mut self, alloc: Global, arrival: &Arrival) -> Result<(), NoMemory>
-        requires lent { self.old.shop ≡ self.old.loaded.now.patterns }
-        ensures shown { OnOk result ((script : Script) → Stands self.old.loaded.now script
-            → IsTurn (proxy_of script self.old.settings.now) arrival.now self.old.objects self.new.objects) }
-        ensures lent { IsLent self.old.loaded.now self.old.settings.now self.new }
+    fn handle(
+        &mut self,
+        alloc: Global,
+        loaded: &Loaded,
+        settings: &Settings,
+        shop: &mut Workshop<'_>,
+        arrival: &Arrival,
+    ) -> Result<(), NoMemory>
+        requires patterns { shop.old ≡ loaded.now.patterns }
+        ensures shown { OnOk result ((script : Script) → Stands loaded.now script
+            → IsTurn (proxy_of script settings.now) arrival.now self.old.objects self.new.objects) }
+        ensures same { shop.new ≡ shop.old }
     {
         let b = arrival.bytes.as_slice();
         if is_keepalive(b) {
             return push_drop(alloc, &mut self.objects.trace, arrival.at, Cause::Keepalive);
         }
-        if Message::read_into(b, &mut self.message).is_err() {
-            let trace = &mut self.objects.trace;
-            return refuse(alloc, b, arrival.from, arrival.at, &mut self.room, trace);
-        }
-        match self.message.start {
-            Start::Status { .. } => {
-                push_drop(alloc, &mut self.objects.trace, arrival.at, Cause::StrayReply)
+        a_reading_is_the_message();
+        match Message::read_into(b, &mut self.message) {
+            Ok(()) => match self.message.start {
+                Start::Status { .. } => {
+                    push_drop(alloc, &mut self.objects.trace, arrival.at, Cause::StrayReply)
+                }
+                Start::Request { .. } => self.run_request(alloc, loaded, settings, shop, arrival),
+            },
+            Err(_) => {
+                let trace = &mut self.objects.trace;
+                refuse(alloc, b, arrival.from, arrival.at, &mut self.room, trace)
             }
-            Start::Request { .. } => self.run_request(alloc, b, arrival.from, arrival.at),
         }
     }
 
     /// Runs `request_route` over the request that was read, and shows what it decided.
-    fn run_request(&mut self, alloc: Global, b: &[u8], source: Addr, at: u64) -> Result<(), NoMemory>
-        requires lent { self.old.shop ≡ self.old.loaded.now.patterns }
-        requires reads { Reads b.now self.old.message }
-        ensures shown { OnOk result ((script : Script) → Stands self.old.loaded.now script
-            → AreShownBy at (played_at (proxy_of script self.old.settings.now) at source (Runs (received b.now self.old.message)) (tables_of self.old.objects))
+    fn run_request(
+        &mut self,
+        alloc: Global,
+        loaded: &Loaded,
+        settings: &Settings,
+        shop: &mut Workshop<'_>,
+        arrival: &Arrival,
+    ) -> Result<(), NoMemory>
+        requires patterns { shop.old ≡ loaded.now.patterns }
+        requires reads { Reads arrival.now.bytes self.old.message }
+        ensures shown { OnOk result ((script : Script) → Stands loaded.now script
+            → AreShownBy arrival.now.at
+            (played_at (proxy_of script settings.now) arrival.now.at arrival.now.from (Runs (received arrival.now.bytes self.old.message)) (tables_of self.old.objects))
             self.old.objects self.new.objects) }
-        ensures lent { IsLent self.old.loaded.now self.old.settings.now self.new }
+        ensures same { shop.new ≡ shop.old }
     {
-        let view = MessageView {
-            bytes: b,
-            message: &self.message,
-        };
-        let lent = Lent {
-            loaded: self.loaded,
-            settings: self.settings,
-            message: Some(view),
-        };
-        let data = data_at_first(alloc, &lent, view, source)?;
-        let (data, how) = run_block(alloc, &lent, &mut self.shop, &mut self.objects, at, data)?;
+        let (b, source, at) = (arrival.bytes.as_slice(), arrival.from, arrival.at);
+        let data = data_at_first(alloc, loaded, b, &self.message, source)?;
+        let (data, how) = run_over(
+            alloc,
+            &*loaded,
+            &*settings,
+            &*b,
+            &self.message,
+            shop,
+            &mut self.objects,
+            at,
+            data,
+        )?;
         let trace = &mut self.objects.trace;
-        conclude(alloc, view, source, at, &data.facts, how, &mut self.room, trace)
+        let (m, room) = (&self.message, &mut self.room);
+        conclude(alloc, b, m, source, at, &data.facts, how, room, trace)
     }
 }
