@@ -1,7 +1,5 @@
-mod Run
-mod Scripts
 mod Items
 mod Texts
+mod Files
 mod Statuses
 mod Causes
-mod Checks

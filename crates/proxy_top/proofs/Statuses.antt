@@ -7,7 +7,7 @@ use Rattle.pv_values.specs.declared.refusal.Place.{Place}
 use Rattle.proxy_top.specs.declared.top.Ending.{Ending}
 use Rattle.proxy_top.specs.declared.top.Ending.TheVariants as outcome
 use Rattle.proxy_top.specs.Commands.{IsNoCommand}
-use Rattle.proxy_top.specs.Endings.{IsEnding, IsDone, IsRefusedByCommand, IsWrongLine, IsToRead, IsUnread, IsReported, IsEnd, IsStatus, Gives, status_of, text_of, accepted_line, usage_line, refused_line, wrong_line, unread_line, PrintsMemory}
+use Rattle.proxy_top.specs.Endings.{NamesScript, IsEnding, IsDone, IsRefusedByCommand, IsWrongLine, IsToRead, IsUnread, IsReported, IsEnd, IsStatus, Gives, status_of, text_of, accepted_line, usage_line, refused_line, wrong_line, unread_line, PrintsMemory}
 
 -- below 5 the status is that of an ending
 reported : (words : List (List ℕ)) (folder : Option Folder) (f g : List ℕ → ℕ) (old new : Option (List ℕ)) (c d s t status : ℕ) → IsEnd words folder f g old new c d s t status → status < 5 → IsReported words folder f g old new status
@@ -117,22 +117,25 @@ known words folder f g old new c d s t status (inr (inl h)) = inr (inr (inr (inr
 known words folder f g old new c d s t status (inr (inr h)) = inr (inr (inr (inr (inr (inr h.is)))))
 
 -- words in no form name no file
+none_named : (words : List (List ℕ)) (file : List ℕ) → IsNoCommand words → NamesScript words file → ⊥
+none_named words file none (inl check) = none.no_check file check
+none_named words file none (inr (scenario, sim)) = none.no_sim file scenario sim
+
 none_to_read : (words : List (List ℕ)) (folder : Option Folder) (name : List ℕ) → IsNoCommand words → IsToRead words folder name → ⊥
-none_to_read words folder name none (inl check) = none.no_check name check
-none_to_read words folder name none (inr (inl (scenario, sim))) = none.no_sim name scenario sim
-none_to_read words folder name none (inr (inr sim)) = none.no_sim sim.script name sim.words_are
+none_to_read words folder name none (inl (inl check)) = none.no_check name check
+none_to_read words folder name none (inl (inr (scenario, sim))) = none.no_sim name scenario sim
+none_to_read words folder name none (inr sim) = none.no_sim sim.file name sim.words_are
 
 none_refused : (words : List (List ℕ)) (folder : Option Folder) (kind : ℕ) (at : Place) → IsNoCommand words → IsRefusedByCommand words folder kind at → ⊥
-none_refused words folder kind at none (inl r) = none.no_check r.file r.words_are
-none_refused words folder kind at none (inr r) = none.no_sim r.script r.scenario r.words_are
+none_refused words folder kind at none r = none_named words r.file none r.names
 
 no_command_in : (words : List (List ℕ)) (folder : Option Folder) (f g : List ℕ → ℕ) (status : ℕ) (ending : Ending)
     → status ≡ status_of ending → IsEnding words folder f g ending → IsNoCommand words → status ≡ 1
 no_command_in words folder f g status outcome.Accepted is ends none = absurd (none.no_check ends.file ends.words_are)
-no_command_in words folder f g status (outcome.Ran trace) is ends none = absurd (none.no_sim ends.script ends.scenario ends.words_are)
+no_command_in words folder f g status (outcome.Ran trace) is ends none = absurd (none.no_sim ends.file ends.scenario ends.words_are)
 no_command_in words folder f g status outcome.Usage is ends none = is
 no_command_in words folder f g status (outcome.Refused kind at) is ends none = absurd (none_refused words folder kind at none ends)
-no_command_in words folder f g status (outcome.WrongLine line) is ends none = absurd (none.no_sim ends.script ends.scenario ends.words_are)
+no_command_in words folder f g status (outcome.WrongLine line) is ends none = absurd (none.no_sim ends.file ends.scenario ends.words_are)
 no_command_in words folder f g status (outcome.Unread name) is ends none = absurd (none_to_read words folder name.now none ends.is_to_read)
 
 pub no_command : (words : List (List ℕ)) (folder : Option Folder) (f g : List ℕ → ℕ) (old new : Option (List ℕ)) (c d s t status : ℕ) → IsEnd words folder f g old new c d s t status → IsNoCommand words → Gives 1 f g c d status

@@ -8,15 +8,14 @@ use Rattle.pv_values.specs.declared.refusal.Place.{Place}
 use Rattle.cfg_tree.specs.declared.script.Script.{Script}
 use Rattle.cfg_tree.specs.declared.refusal_kind.RefusalKind.TheVariants.{Syntax, TooLarge}
 use Rattle.cfg_tree.specs.RefusalKinds.{refusal_number}
-use Rattle.proxy_top.specs.declared.script.AnswerAll.{AnswerAll}
 use Rattle.proxy_top.specs.declared.top.Ending.{Ending}
 use Rattle.proxy_top.specs.declared.top.Ending.TheVariants as outcome
+use Rattle.proxy_top.specs.declared.top.Stop.{Stop}
+use Rattle.proxy_top.specs.declared.top.Stop.TheVariants as stop
 use Rattle.proxy_top.specs.Accept.{AcceptsText, RefusesText}
 use Rattle.proxy_top.specs.Commands.{check_words, sim_words, IsNoCommand}
-use Rattle.proxy_top.specs.Script.{IsScript}
 use Rattle.sim_text.specs.Scenario.{Contents, IsScenario, IsFirstWrong}
-use Rattle.sim_text.specs.Trace.{trace}
-use Rattle.proxy_top.specs.Solo.{solo}
+use Rattle.solo_run.specs.Solo.{solo_trace}
 
 abbrev pub place : ℕ → ℕ → Place
 place from to = record { from = from; to = to }
@@ -43,15 +42,16 @@ unread_line name = codes "cannot read " ++ (name ++ 10 ∷ [])
 abbrev pub memory_line : List ℕ
 memory_line = codes "out of memory\n"
 
--- ---- how the command `check` ends
+-- ---- how a script is read
 
--- the words are `check`, and the file holds a text that is accepted
-pub record IsAcceptedByCheck (words : List (List ℕ)) (folder : Option Folder) : Type 0 where
-  pub file : List ℕ
-  pub words_are : words ≡ check_words file
+-- the words name this file as that of the script
+abbrev pub NamesScript : List (List ℕ) → List ℕ → Type 0
+NamesScript words file = (words ≡ check_words file) ⊎ ((scenario : List ℕ) × (words ≡ sim_words file scenario))
+
+-- the file of this name holds a text that is accepted as this script
+pub record ReadsScript (folder : Option Folder) (file : List ℕ) (script : Script) : Type 0 where
   pub text : List ℕ
   pub held : Holds folder file text
-  pub script : Script
   pub accepted : AcceptsText text script
 
 -- this file is refused: it holds a text of at most 1 MiB that is refused so, or it is longer
@@ -60,50 +60,44 @@ RefusesFile folder file kind at =
     ((text : List ℕ) × Holds folder file text × (length text ≤ 1048576) × RefusesText text kind at)
     ⊎ (IsLonger folder file 1048576 × (kind ≡ refusal_number TooLarge) × (at ≡ place 1048576 1048577))
 
--- the words are `check`, and the file is refused with this kind at this place
-pub record IsRefusedByCheck (words : List (List ℕ)) (folder : Option Folder) (kind : ℕ) (at : Place) : Type 0 where
+-- the file of the script is refused with this kind at this place
+pub record IsRefusedByCommand (words : List (List ℕ)) (folder : Option Folder) (kind : ℕ) (at : Place) : Type 0 where
+  pub file : List ℕ
+  pub names : NamesScript words file
+  pub refused : RefusesFile folder file kind at
+
+-- ---- how the command `check` ends
+
+-- the words are `check`, and the script is accepted
+pub record IsAcceptedByCheck (words : List (List ℕ)) (folder : Option Folder) : Type 0 where
   pub file : List ℕ
   pub words_are : words ≡ check_words file
-  pub refused : RefusesFile folder file kind at
+  pub script : Script
+  pub accepted : ReadsScript folder file script
 
 -- ---- how the command `sim` ends
 
--- the file of this name has these bytes, which are a script with this answer
-pub record ReadsScript (folder : Option Folder) (name : List ℕ) (answer : AnswerAll) : Type 0 where
-  pub text : List ℕ
-  pub held : Holds folder name text
-  pub script : IsScript text answer
-
--- the words are `sim`, the script and the scenario read, and this is the trace of the solo run
+-- the words are `sim`, the script is accepted and the scenario reads, and this is the trace of the solo run
 pub record IsRun (words : List (List ℕ)) (folder : Option Folder) (printed : List ℕ) : Type 0 where
-  pub script : List ℕ
+  pub file : List ℕ
   pub scenario : List ℕ
-  pub words_are : words ≡ sim_words script scenario
-  pub answer : AnswerAll
-  pub accepted : ReadsScript folder script answer
+  pub words_are : words ≡ sim_words file scenario
+  pub script : Script
+  pub accepted : ReadsScript folder file script
   pub text : List ℕ
   pub held : Holds folder scenario text
   pub said : Contents
   pub reads : IsScenario text said
-  pub trace_is : printed ≡ trace (solo answer said.arrivals) said.end 0
+  pub trace_is : printed ≡ solo_trace script said
 
--- the words are `sim`, and the script is malformed, or longer than 1 MiB: that is Syntax at 0..0
-pub record IsRefusedBySim (words : List (List ℕ)) (folder : Option Folder) (kind : ℕ) (at : Place) : Type 0 where
-  pub script : List ℕ
-  pub scenario : List ℕ
-  pub words_are : words ≡ sim_words script scenario
-  pub kind_is : kind ≡ refusal_number Syntax
-  pub at_is : at ≡ place 0 0
-  pub refused : ((text : List ℕ) × Holds folder script text × ((answer : AnswerAll) → IsScript text answer → ⊥)) ⊎ IsLonger folder script 1048576
-
--- the words are `sim` with a script that reads, and this line of the scenario is the first malformed one, or 0 where the
+-- the words are `sim` with a script that is accepted, and this line of the scenario is the first malformed one, or 0 where the
 -- scenario is longer than 4 MiB
 pub record IsWrongLine (words : List (List ℕ)) (folder : Option Folder) (line : ℕ) : Type 0 where
-  pub script : List ℕ
+  pub file : List ℕ
   pub scenario : List ℕ
-  pub words_are : words ≡ sim_words script scenario
-  pub answer : AnswerAll
-  pub accepted : ReadsScript folder script answer
+  pub words_are : words ≡ sim_words file scenario
+  pub script : Script
+  pub accepted : ReadsScript folder file script
   pub wrong : ((text : List ℕ) × Holds folder scenario text × IsFirstWrong text line) ⊎ ((line ≡ 0) × IsLonger folder scenario 4194304)
 
 -- ---- how a command ends
@@ -112,21 +106,16 @@ pub record IsWrongLine (words : List (List ℕ)) (folder : Option Folder) (line 
 abbrev pub IsDone : List (List ℕ) → Option Folder → List ℕ → Type 0
 IsDone words folder printed = (IsAcceptedByCheck words folder × (printed ≡ accepted_line)) ⊎ IsRun words folder printed
 
--- the script is refused with this kind at this place
-abbrev pub IsRefusedByCommand : List (List ℕ) → Option Folder → ℕ → Place → Type 0
-IsRefusedByCommand words folder kind at = IsRefusedByCheck words folder kind at ⊎ IsRefusedBySim words folder kind at
-
--- the words are `sim`, and the file of this name is the scenario, after a script that reads
+-- the words are `sim`, and the file of this name is the scenario, after a script that is accepted
 pub record IsScenarioOf (words : List (List ℕ)) (folder : Option Folder) (name : List ℕ) : Type 0 where
-  pub script : List ℕ
-  pub words_are : words ≡ sim_words script name
-  pub answer : AnswerAll
-  pub accepted : ReadsScript folder script answer
+  pub file : List ℕ
+  pub words_are : words ≡ sim_words file name
+  pub script : Script
+  pub accepted : ReadsScript folder file script
 
--- the file of this name is to be read: it is the script, or the scenario after a script that reads
+-- the file of this name is to be read: it is the script's, or the scenario's after a script that is accepted
 abbrev pub IsToRead : List (List ℕ) → Option Folder → List ℕ → Type 0
-IsToRead words folder name =
-    (words ≡ check_words name) ⊎ (((scenario : List ℕ) × (words ≡ sim_words name scenario)) ⊎ IsScenarioOf words folder name)
+IsToRead words folder name = NamesScript words name ⊎ IsScenarioOf words folder name
 
 -- the file of this name was to be read, and was not: its count of faults rose
 pub record IsUnread (words : List (List ℕ)) (folder : Option Folder) (old_faults new_faults : List ℕ → ℕ) (name : List ℕ) : Type 0 where
@@ -140,6 +129,11 @@ IsEnding words folder old_faults new_faults outcome.Usage = IsNoCommand words
 IsEnding words folder old_faults new_faults (outcome.Refused kind at) = IsRefusedByCommand words folder kind at
 IsEnding words folder old_faults new_faults (outcome.WrongLine line) = IsWrongLine words folder line
 IsEnding words folder old_faults new_faults (outcome.Unread name) = IsUnread words folder old_faults new_faults name.now
+
+-- a command that stops before its end has ended so, or is out of memory
+abbrev pub StopsSo : List (List ℕ) → Option Folder → (List ℕ → ℕ) → (List ℕ → ℕ) → Stop → Type 0
+StopsSo words folder old_faults new_faults (stop.Ended ending) = IsEnding words folder old_faults new_faults ending
+StopsSo words folder old_faults new_faults stop.NoMemory = Unit {0}
 
 abbrev pub status_of : Ending → ℕ
 status_of outcome.Accepted = 0
@@ -221,18 +215,18 @@ pub record IsToAccept (words : List (List ℕ)) (folder : Option Folder) : Type 
   pub script : Script
   pub accepted : AcceptsText text script
 
--- the words are `check`, and the file is told to hold a text that is refused with this kind at this place
+-- the file of the script is told to hold a text that is refused with this kind at this place
 pub record IsToRefuse (words : List (List ℕ)) (folder : Option Folder) (kind : ℕ) (at : Place) : Type 0 where
   pub file : List ℕ
-  pub words_are : words ≡ check_words file
+  pub names : NamesScript words file
   pub text : List ℕ
   pub held : Tells folder file 1048576 text
   pub refused : RefusesText text kind at
 
--- the words are `check`, and the file is told to be longer than 1 MiB
+-- the file of the script is told to be longer than 1 MiB
 pub record IsTooLong (words : List (List ℕ)) (folder : Option Folder) : Type 0 where
   pub file : List ℕ
-  pub words_are : words ≡ check_words file
+  pub names : NamesScript words file
   pub files : Folder
   pub told : folder ≡ Some files
   pub text : List ℕ
@@ -243,38 +237,28 @@ pub record IsTooLong (words : List (List ℕ)) (folder : Option Folder) : Type 0
 abbrev pub PrintsRefusal : ℕ → Place → Option (List ℕ) → Option (List ℕ) → Type 0
 PrintsRefusal kind at old new = (p : Place) × (kind ≢ refusal_number Syntax → p.from ≡ at.from) × Grows old new (refused_line kind p)
 
--- the words are `sim`, and both files read
-pub record IsReady (words : List (List ℕ)) (folder : Option Folder) : Type 0 where
-  pub script : List ℕ
-  pub scenario : List ℕ
-  pub words_are : words ≡ sim_words script scenario
+-- the words are `sim`, and the file of the script is told to hold a text that is accepted
+pub record IsToRun (words : List (List ℕ)) (folder : Option Folder) (scenario : List ℕ) : Type 0 where
+  pub file : List ℕ
+  pub words_are : words ≡ sim_words file scenario
   pub text : List ℕ
-  pub held : Tells folder script 1048576 text
-  pub answer : AnswerAll
-  pub accepted : IsScript text answer
+  pub held : Tells folder file 1048576 text
+  pub script : Script
+  pub accepted : AcceptsText text script
+
+-- besides, the scenario reads
+pub record IsReady (words : List (List ℕ)) (folder : Option Folder) : Type 0 where
+  pub scenario : List ℕ
+  pub run : IsToRun words folder scenario
   pub lines : List ℕ
   pub told : Tells folder scenario 4194304 lines
   pub said : Contents
   pub reads : IsScenario lines said
 
--- the words are `sim`, and the script is malformed
-pub record IsMalformedScript (words : List (List ℕ)) (folder : Option Folder) : Type 0 where
-  pub script : List ℕ
-  pub scenario : List ℕ
-  pub words_are : words ≡ sim_words script scenario
-  pub text : List ℕ
-  pub held : Tells folder script 1048576 text
-  pub refused : (answer : AnswerAll) → IsScript text answer → ⊥
-
--- the words are `sim`, the script reads, and this line of the scenario is the first malformed one
+-- or this line of the scenario is the first malformed one
 pub record IsMalformedScenario (words : List (List ℕ)) (folder : Option Folder) (line : ℕ) : Type 0 where
-  pub script : List ℕ
   pub scenario : List ℕ
-  pub words_are : words ≡ sim_words script scenario
-  pub text : List ℕ
-  pub held : Tells folder script 1048576 text
-  pub answer : AnswerAll
-  pub accepted : IsScript text answer
+  pub run : IsToRun words folder scenario
   pub lines : List ℕ
   pub told : Tells folder scenario 4194304 lines
   pub wrong : IsFirstWrong lines line

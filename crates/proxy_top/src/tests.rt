@@ -3,6 +3,7 @@
 mod checks;
 mod runs;
 mod syntax;
+mod traces;
 
 use crate::simulate;
 use outside_ports::{MemConsole, MemFiles};
@@ -182,14 +183,14 @@ fn scenarios_print_their_trace(rt: HostRuntime) -> Result<(), Fail> {
             SCRIPT,
             "in 3 1.2.3.4:5\nend 3\n",
             0,
-            "drop 3 not_sip\nend 3 live 0\n",
+            "drop 3 keepalive\nend 3 live 0\n",
         ),
         sim_case(
             "hosts, which are not used, and bytes",
             SCRIPT,
             "host a.example 1.2.3.4:5\nin 3 1.2.3.4:5\n+0d0A\n+\nend 4\n",
             0,
-            "drop 3 not_sip\nend 4 live 0\n",
+            "drop 3 keepalive\nend 4 live 0\n",
         ),
     ];
     for case in &cases {
@@ -200,22 +201,21 @@ fn scenarios_print_their_trace(rt: HostRuntime) -> Result<(), Fail> {
 
 #[test]
 fn scripts_and_scenarios_in_no_form(rt: HostRuntime) -> Result<(), Fail> {
-    let refused = "refused 3 at 0..0\n";
     let cases = [
-        sim_case("an empty script", "", OPTIONS, 2, refused),
+        sim_case("an empty script", "", OPTIONS, 2, "refused 14 at 0..0\n"),
         sim_case(
-            "code 100",
-            "request_route { sl_send_reply(\"100\", \"OK\"); }",
+            "a script that isn't closed",
+            "request_route { sl_send_reply(\"200\", \"OK\");",
             OPTIONS,
             2,
-            refused,
+            "refused 3 at 43..43\n",
         ),
         sim_case(
-            "two LF",
-            "request_route { sl_send_reply(\"200\", \"OK\"); }\n\n",
-            OPTIONS,
+            "an unknown function",
+            "request_route { send(\"200\"); }",
+            "go",
             2,
-            refused,
+            "refused 6 at 16..20\n",
         ),
         sim_case(
             "the second line is go",
@@ -429,7 +429,7 @@ fn scripts_round_the_longest(rt: HostRuntime) -> Result<(), Fail> {
         "{}",
         case.shows
     );
-    let case = sim_case("too long for sim", "", OPTIONS, 2, "refused 3 at 0..0\n");
+    let case = sim_case("too long for sim", "", OPTIONS, 2, "refused 13 at 1048576..1048577\n");
     assert!(rt;
         holds_with(alloc, &case, longer.as_slice())?,
         "{}",

@@ -1,12 +1,12 @@
 //! The top call.
 
-ghost use Rattle.std.specs.Prelude.{◌≡◌, ◌≤◌, ◌⊎◌, [], ℕ, List, IfOk};
+ghost use Rattle.std.specs.Prelude.{◌≡◌, ◌≤◌, ◌⊎◌, [], ℕ, List, IfOk, IfErr};
 ghost use Rattle.outside_ports.specs.Counts.{Rises};
 ghost use Rattle.outside_ports.specs.Told.{Grows};
 ghost use Rattle.pv_values.specs.declared.refusal.Place.{Place};
 ghost use Rattle.cfg_tree.specs.declared.refusal_kind.RefusalKind.TheVariants.{TooLarge};
 ghost use Rattle.cfg_tree.specs.RefusalKinds.{refusal_number};
-ghost use Rattle.proxy_top.specs.Commands.{words_of, check_words, sim_words, IsNoCommand};
+ghost use Rattle.proxy_top.specs.Commands.{words_of, sim_words, IsNoCommand};
 ghost use Rattle.proxy_top.specs.Endings.{
   IsEnding,
   IsDone,
@@ -22,7 +22,9 @@ ghost use Rattle.proxy_top.specs.Endings.{
   IsTooLong,
   PrintsRefusal,
   PrintsMemory,
-  IsMalformedScript,
+  NamesScript,
+  ReadsScript,
+  StopsSo,
   IsMalformedScenario,
   IsReady,
   place,
@@ -37,12 +39,13 @@ ghost use Rattle.proxy_top.specs.Endings.{
 
 use crate::accept::{a_text_is_refused_in_one_way, accepted, no_text_is_accepted_and_refused};
 use crate::command::{Command, read_command};
-use crate::script::read_script;
-use crate::sim::run_sim;
+use cfg_compile::compile;
+use cfg_tree::ClosedScript;
 use numerals::push_number;
 use outside_ports::{Console, FileFault, Files, PrintEnd};
 use pv_values::{Place, ScriptFault};
 use sim_text::{ScenarioFault, read_scenario};
+use solo_run::solo_trace;
 use std::alloc::{AllocError as NoMemory, Global};
 
 /// The longest script, in bytes.
@@ -60,13 +63,8 @@ const PAST_LONGEST: Place = Place {
 /// The number of the kind `TooLarge`, of a file above 1 MiB.
 const TOO_LARGE: u8 = 13;
 
-/// The number of the kind `Syntax`, of each script that `sim` refuses.
-const SYNTAX: u8 = 3;
-
-/// Where `sim` refuses a script that is malformed.
-const NOWHERE: Place = Place { from: 0, to: 0 };
-
 /// How a command ended.
+#[derive(Drop)]
 enum Ending<'a> {
     /// `check`: the script is accepted.
     Accepted,
@@ -94,11 +92,10 @@ enum Ending<'a> {
 /// | 5 | the console failed, whatever the command came to | |
 /// | 8 | it was out of memory | `out of memory`, or nothing where the console was out of memory too |
 ///
-/// The scenario is read once the script was read and is one. So status 4 comes with the scenario's name after a script
-/// that reads alone, and with no other name than that of a file whose count of faults rose.
-/// A script of more than 1,048,576 bytes is refused by `check` as TooLarge at 1048576..1048577. Each script that `sim`
-/// refuses is Syntax at 0..0. Of a Syntax by `check` no clause says the place.
-#[tactic(auto, using(crate::proofs::Statuses::done, crate::proofs::Statuses::usage, crate::proofs::Statuses::refused, crate::proofs::Statuses::in_wrong_line, crate::proofs::Statuses::unread, crate::proofs::Statuses::failed, crate::proofs::Statuses::memory, crate::proofs::Statuses::known, crate::proofs::Statuses::no_command, crate::proofs::Causes::no_form, crate::proofs::Checks::too_long, crate::proofs::Checks::too_long_line))]
+/// The scenario is read once the script is accepted. So status 4 comes with the scenario's name after a script that is
+/// accepted alone, and with no other name than that of a file whose count of faults rose.
+/// A script of more than 1,048,576 bytes is refused as TooLarge at 1048576..1048577. Of a Syntax no clause says the place.
+#[tactic(auto, using(crate::proofs::Statuses::done, crate::proofs::Statuses::usage, crate::proofs::Statuses::refused, crate::proofs::Statuses::in_wrong_line, crate::proofs::Statuses::unread, crate::proofs::Statuses::failed, crate::proofs::Statuses::memory, crate::proofs::Statuses::known, crate::proofs::Statuses::no_command, crate::proofs::Causes::too_long_line))]
 pub fn simulate<F: Files, C: Console>(
     alloc: Global,
     words: &[String],
@@ -132,19 +129,17 @@ pub fn simulate<F: Files, C: Console>(
         → Gives 1 (F.faults files.old) (F.faults files.new) (C.faults console.old) (C.faults console.new) result }
     ensures check_accepts { IsToAccept (words_of words.now) (F.folder files.old)
         → Gives 0 (F.faults files.old) (F.faults files.new) (C.faults console.old) (C.faults console.new) result }
-    ensures check_refuses { (kind : ℕ) (at : Place) → IsToRefuse (words_of words.now) (F.folder files.old) kind at
+    ensures refuses { (kind : ℕ) (at : Place) → IsToRefuse (words_of words.now) (F.folder files.old) kind at
         → Gives 2 (F.faults files.old) (F.faults files.new) (C.faults console.old) (C.faults console.new) result }
-    ensures check_too_long { IsTooLong (words_of words.now) (F.folder files.old)
-        → Gives 2 (F.faults files.old) (F.faults files.new) (C.faults console.old) (C.faults console.new) result }
-    ensures no_form { IsMalformedScript (words_of words.now) (F.folder files.old)
+    ensures too_long { IsTooLong (words_of words.now) (F.folder files.old)
         → Gives 2 (F.faults files.old) (F.faults files.new) (C.faults console.old) (C.faults console.new) result }
     ensures in_wrong_line { (line : ℕ) → IsMalformedScenario (words_of words.now) (F.folder files.old) line
         → Gives 3 (F.faults files.old) (F.faults files.new) (C.faults console.old) (C.faults console.new) result }
     ensures ready { IsReady (words_of words.now) (F.folder files.old)
         → Gives 0 (F.faults files.old) (F.faults files.new) (C.faults console.old) (C.faults console.new) result }
 
-    // What a refusal by `check` prints, where the file is told.
-    ensures refused_by_check { (kind : ℕ) (at : Place) → IsToRefuse (words_of words.now) (F.folder files.old) kind at
+    // What a refusal prints, where the file is told.
+    ensures refused_line { (kind : ℕ) (at : Place) → IsToRefuse (words_of words.now) (F.folder files.old) kind at
         → result ≡ 2 → PrintsRefusal kind at (C.printed console.old) (C.printed console.new) }
     ensures refused_too_long { IsTooLong (words_of words.now) (F.folder files.old)
         → result ≡ 2 → Grows (C.printed console.old) (C.printed console.new) (refused_line (refusal_number TooLarge) (place 1048576 1048577)) }
@@ -175,8 +170,8 @@ fn run_and_print<F: Files, C: Console>(
     ensures shortages_never_fall { C.shortages console.old ≤ C.shortages console.new }
 {
     match run_command(alloc, words, files) {
-        Ok(ending) => report(alloc, ending, console),
-        Err(NoMemory) => report_no_memory(console),
+        Ok(ending) | Err(Stop::Ended(ending)) => report(alloc, ending, console),
+        Err(Stop::NoMemory) => report_no_memory(console),
     }
 }
 
@@ -275,82 +270,97 @@ fn refused_line(alloc: Global, kind: u8, at: Place) -> Result<Vec<u8>, NoMemory>
 const USAGE: &[u8] =
     b"usage: sipscript check FILE, sim FILE SCENARIO, load N, serve FILE [options]\n";
 
+/// Why a command stops before its end.
+#[derive(Drop)]
+enum Stop<'a> {
+    /// It has ended so.
+    Ended(Ending<'a>),
+    NoMemory,
+}
+
+impl From<NoMemory> for Stop<'_> {
+    fn from(_: NoMemory) -> Self
+        ensures { result ≡ Stop.NoMemory }
+    {
+        Stop::NoMemory
+    }
+}
+
 fn run_command<'a, F: Files>(
     alloc: Global,
     words: &'a [String],
     files: &mut F,
-) -> Result<Ending<'a>, NoMemory>
+) -> Result<Ending<'a>, Stop<'a>>
     ensures ended { IfOk result (IsEnding (words_of words.entry.now) (F.folder files.old) (F.faults files.old) (F.faults files.new)) }
+    ensures stopped { IfErr result (StopsSo (words_of words.entry.now) (F.folder files.old) (F.faults files.old) (F.faults files.new)) }
     ensures same { F.folder files.new ≡ F.folder files.old }
     ensures never_falls { (name : List ℕ) → F.faults files.old name ≤ F.faults files.new name }
 {
     match read_command(words) {
-        Some(Command::Check { script }) => check(alloc, script, files),
+        Some(Command::Check { script }) => {
+            read_script(alloc, script, files)?;
+            Ok(Ending::Accepted)
+        }
         Some(Command::Sim { script, scenario }) => sim(alloc, script, scenario, files),
         None => Ok(Ending::Usage),
     }
 }
 
-/// `check FILE`: the script file, then the script.
-fn check<'a, F: Files>(alloc: Global, file: &'a str, files: &mut F) -> Result<Ending<'a>, NoMemory>
-    ensures ended { IfOk result (IsEnding (check_words file.entry.now) (F.folder files.old) (F.faults files.old) (F.faults files.new)) }
+/// The script of the file.
+fn read_script<'a, F: Files>(
+    alloc: Global,
+    file: &'a str,
+    files: &mut F,
+) -> Result<ClosedScript, Stop<'a>>
+    ensures accepted { IfOk result (ReadsScript (F.folder files.old) file.entry.now) }
+    ensures stopped { IfErr result (λ stop. (words : List (List ℕ)) → NamesScript words file.entry.now
+        → StopsSo words (F.folder files.old) (F.faults files.old) (F.faults files.new) stop) }
     ensures same { F.folder files.new ≡ F.folder files.old }
     ensures never_falls { (name : List ℕ) → F.faults files.old name ≤ F.faults files.new name }
 {
     let text = match files.read(alloc, file, LONGEST_SCRIPT) {
         Ok(text) => text,
-        Err(FileFault::Failed) => return Ok(Ending::Unread(file)),
+        Err(FileFault::Failed) => return Err(Stop::Ended(Ending::Unread(file))),
         Err(FileFault::TooLong) => {
-            return Ok(Ending::Refused {
+            return Err(Stop::Ended(Ending::Refused {
                 kind: TOO_LARGE,
                 at: PAST_LONGEST,
-            });
+            }));
         }
-        Err(FileFault::NoMemory) => return Err(NoMemory),
+        Err(FileFault::NoMemory) => return Err(Stop::NoMemory),
     };
     match accepted(alloc, text.as_slice()) {
-        Ok(_) => Ok(Ending::Accepted),
-        Err(ScriptFault::Refused { kind, at }) => Ok(Ending::Refused { kind, at }),
-        Err(ScriptFault::NoMemory) => Err(NoMemory),
+        Ok(script) => Ok(script),
+        Err(ScriptFault::Refused { kind, at }) => Err(Stop::Ended(Ending::Refused { kind, at })),
+        Err(ScriptFault::NoMemory) => Err(Stop::NoMemory),
     }
 }
 
 /// `sim FILE SCENARIO`: the script file, the script, the scenario file, the scenario, then the run.
-#[tactic(auto, using(crate::proofs::Causes::no_script))]
 fn sim<'a, F: Files>(
     alloc: Global,
-    script: &'a str,
+    file: &'a str,
     scenario: &'a str,
     files: &mut F,
-) -> Result<Ending<'a>, NoMemory>
-    ensures ended { IfOk result (IsEnding (sim_words script.entry.now scenario.entry.now) (F.folder files.old) (F.faults files.old) (F.faults files.new)) }
+) -> Result<Ending<'a>, Stop<'a>>
+    ensures ended { IfOk result (IsEnding (sim_words file.entry.now scenario.entry.now) (F.folder files.old) (F.faults files.old) (F.faults files.new)) }
+    ensures stopped { IfErr result (StopsSo (sim_words file.entry.now scenario.entry.now) (F.folder files.old) (F.faults files.old) (F.faults files.new)) }
     ensures same { F.folder files.new ≡ F.folder files.old }
     ensures never_falls { (name : List ℕ) → F.faults files.old name ≤ F.faults files.new name }
 {
-    let text = match files.read(alloc, script, LONGEST_SCRIPT) {
-        Ok(text) => text,
-        Err(FileFault::Failed) => return Ok(Ending::Unread(script)),
-        Err(FileFault::TooLong) => return Ok(Ending::Refused {
-            kind: SYNTAX,
-            at: NOWHERE,
-        }),
-        Err(FileFault::NoMemory) => return Err(NoMemory),
-    };
-    let Some(answer) = read_script(text.as_slice()) else {
-        return Ok(Ending::Refused {
-            kind: SYNTAX,
-            at: NOWHERE,
-        });
-    };
+    let script = read_script(alloc, file, files)?;
     let lines = match files.read(alloc, scenario, LONGEST_SCENARIO) {
         Ok(lines) => lines,
         Err(FileFault::Failed) => return Ok(Ending::Unread(scenario)),
         Err(FileFault::TooLong) => return Ok(Ending::WrongLine(0)),
-        Err(FileFault::NoMemory) => return Err(NoMemory),
+        Err(FileFault::NoMemory) => return Err(Stop::NoMemory),
     };
     match read_scenario(alloc, lines.as_slice()) {
-        Ok(scenario) => Ok(Ending::Ran(run_sim(alloc, answer, scenario)?)),
+        Ok(scenario) => {
+            let loaded = compile(alloc, script)?;
+            Ok(Ending::Ran(solo_trace(alloc, &loaded, scenario)?))
+        }
         Err(ScenarioFault::Line(number)) => Ok(Ending::WrongLine(number)),
-        Err(ScenarioFault::NoMemory) => Err(NoMemory),
+        Err(ScenarioFault::NoMemory) => Err(Stop::NoMemory),
     }
 }

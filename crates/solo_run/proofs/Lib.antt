@@ -1,0 +1,6 @@
+mod Stateless
+mod Tables
+mod Played
+mod OnItsWay
+mod Decisions
+mod Turns
