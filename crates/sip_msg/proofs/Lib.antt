@@ -5,8 +5,5 @@ pub mod StartLaw
 pub mod Rows
 pub mod Only
 pub mod Places
-pub mod PlainTakes
-pub mod PlainAgain
-pub mod PlainAddresses
 pub mod Lies
 pub mod Tally

@@ -1,10 +1,7 @@
-pub mod PlainReader
-pub mod PlainPlaces
 pub mod Start
 pub mod Fields
 pub mod Values
 pub mod Places
 pub mod Table
 pub mod Basis
-pub mod PlainForm
 pub mod StartGrammar

@@ -3,7 +3,6 @@
 //! - [`Message::read`] tells the request or the response that a datagram is, each part as a span of the datagram, or
 //!   the first of nine faults.
 //! - [`read_basis`] tells what a response to a malformed request rests on, where there is one.
-//! - [`read_plain`] reads the plain request alone: an OPTIONS whose lines stand in one order.
 //! - [`a_message_lies_in_its_datagram`] and [`a_basis_lies_in_its_datagram`] are laws of any message and basis that a
 //!   datagram has.
 //!
@@ -14,9 +13,6 @@ mod basis;
 mod fields;
 mod laws;
 mod message;
-mod plain;
-#[cfg(test)]
-mod plain_tests;
 mod start;
 #[cfg(test)]
 mod tests;
@@ -25,6 +21,5 @@ mod values;
 pub use basis::{Basis, read_basis};
 pub use laws::{a_basis_lies_in_its_datagram, a_message_lies_in_its_datagram};
 pub use message::{Message, MsgFault};
-pub use plain::{PlainRequest, read_plain};
 pub use sip_words::Span;
 pub use start::Start;
