@@ -36,11 +36,11 @@ use Rattle.std.specs.Fmt.{digits}
 use Rattle.txn_dialogue.proofs.examples.the_best_of_three_responses.Goals as goal
 
 pub returns-clause-first : goal.returns-clause-first
-unfolding octet_at dot_end v4_at port_number_at has many_from many number_at value_end param_at next_param params_at named separator_at run_end blank_len lws_len lws_end gap_end quoted_len quoted_end stands byte_end word_at cseq_at host_of host_at port_at next_name names_end display_end open_at closed_uri bare_uri any_uri route_uri rest_at name_addr_at route_at next_at scheme_end is_absolute password_end user_at login_at sip_at other_at uri_at protocol_at via_at full_name kind_of field_at next_field fields_at head_behind scanned plain_end wsp_end skipped is_crlf line_end continues next_line lines_at folded_end first_crlf begins_sip speaks_sip start_line version_end version_at_space uri_at_space first_from answerable_at basis_in is_of is_missing is_repeated exactly_at plain_uri_at number_below plain_address_at plain_port_at branch_at request_line_at line_to sent_by_at branch_param_at via_line from_line to_line call_id_line cseq_line rest_end plain_at request_at status_at start_at start_of head_of fault_of call_id_at whole_number hops_at via_of name_addr_of call_id_of cseq_of max_forwards_of content_length_of next_via next_route values_read list_reads values_of reply_address number_in forwarding forwarded_text hop_request ack_text cancel_text without_top_via relayed_text reply_text basis_reply_text stamp stateless_ack_text ends_before_empty empty_line with_field joined_text response_to numbers_text branch_text edited encode_with digits
+unfolding octet_at dot_end v4_at port_number_at has many_from many number_at value_end param_at next_param params_at named separator_at run_end blank_len lws_len lws_end gap_end quoted_len quoted_end stands byte_end word_at cseq_at host_of host_at port_at next_name names_end display_end open_at closed_uri bare_uri any_uri route_uri rest_at name_addr_at route_at next_at scheme_end is_absolute password_end user_at login_at sip_at other_at uri_at protocol_at via_at full_name kind_of field_at next_field fields_at head_behind scanned plain_end wsp_end skipped is_crlf line_end continues next_line lines_at folded_end first_crlf begins_sip speaks_sip start_line version_end version_at_space uri_at_space first_from answerable_at basis_in is_of is_missing is_repeated request_at status_at start_at start_of head_of fault_of call_id_at whole_number hops_at via_of name_addr_of call_id_of cseq_of max_forwards_of content_length_of next_via next_route values_read list_reads values_of reply_address number_in forwarding forwarded_text hop_request ack_text cancel_text without_top_via relayed_text reply_text basis_reply_text stamp stateless_ack_text ends_before_empty empty_line with_field joined_text response_to numbers_text branch_text edited encode_with digits
 returns-clause-first c = refl
 
 pub returns-clause-second : goal.returns-clause-second
-unfolding octet_at dot_end v4_at port_number_at has many_from many number_at value_end param_at next_param params_at named separator_at run_end blank_len lws_len lws_end gap_end quoted_len quoted_end stands byte_end word_at cseq_at host_of host_at port_at next_name names_end display_end open_at closed_uri bare_uri any_uri route_uri rest_at name_addr_at route_at next_at scheme_end is_absolute password_end user_at login_at sip_at other_at uri_at protocol_at via_at full_name kind_of field_at next_field fields_at head_behind scanned plain_end wsp_end skipped is_crlf line_end continues next_line lines_at folded_end first_crlf begins_sip speaks_sip start_line version_end version_at_space uri_at_space first_from answerable_at basis_in is_of is_missing is_repeated exactly_at plain_uri_at number_below plain_address_at plain_port_at branch_at request_line_at line_to sent_by_at branch_param_at via_line from_line to_line call_id_line cseq_line rest_end plain_at request_at status_at start_at start_of head_of fault_of call_id_at whole_number hops_at via_of name_addr_of call_id_of cseq_of max_forwards_of content_length_of next_via next_route values_read list_reads values_of reply_address number_in forwarding forwarded_text hop_request ack_text cancel_text without_top_via relayed_text reply_text basis_reply_text stamp stateless_ack_text ends_before_empty empty_line with_field joined_text response_to numbers_text branch_text edited encode_with digits
+unfolding octet_at dot_end v4_at port_number_at has many_from many number_at value_end param_at next_param params_at named separator_at run_end blank_len lws_len lws_end gap_end quoted_len quoted_end stands byte_end word_at cseq_at host_of host_at port_at next_name names_end display_end open_at closed_uri bare_uri any_uri route_uri rest_at name_addr_at route_at next_at scheme_end is_absolute password_end user_at login_at sip_at other_at uri_at protocol_at via_at full_name kind_of field_at next_field fields_at head_behind scanned plain_end wsp_end skipped is_crlf line_end continues next_line lines_at folded_end first_crlf begins_sip speaks_sip start_line version_end version_at_space uri_at_space first_from answerable_at basis_in is_of is_missing is_repeated request_at status_at start_at start_of head_of fault_of call_id_at whole_number hops_at via_of name_addr_of call_id_of cseq_of max_forwards_of content_length_of next_via next_route values_read list_reads values_of reply_address number_in forwarding forwarded_text hop_request ack_text cancel_text without_top_via relayed_text reply_text basis_reply_text stamp stateless_ack_text ends_before_empty empty_line with_field joined_text response_to numbers_text branch_text edited encode_with digits
 returns-clause-second c = refl
 
 pub returns-clause-chosen : goal.returns-clause-chosen
