@@ -429,7 +429,13 @@ fn scripts_round_the_longest(rt: HostRuntime) -> Result<(), Fail> {
         "{}",
         case.shows
     );
-    let case = sim_case("too long for sim", "", OPTIONS, 2, "refused 13 at 1048576..1048577\n");
+    let case = sim_case(
+        "too long for sim",
+        "",
+        OPTIONS,
+        2,
+        "refused 13 at 1048576..1048577\n",
+    );
     assert!(rt;
         holds_with(alloc, &case, longer.as_slice())?,
         "{}",

@@ -22,11 +22,13 @@ module _ (loaded : FlatScript) (a : Around) (before : Facts) where
       asked ≡ ask_of h → h' ≡ with_ask h ask.Free → IsHostNext loaded a before c (onward.Asks (record { run = h'; before = f }) asked)
   asks_next (Takes short on) h h' f asked b (inl w) e n = inl (asks_next short h h' f asked b w e n)
   asks_next (Takes short on) h h' f asked b (inr w) e n = inr (asks_next on h h' f asked b w e n)
-  asks_next (Asks q next) h h' f asked b w e n =
-      (ap (λ x. as_asked x []) e ∙ w.0, record {
-        waits = subst (λ x. HostWaits loaded a x next) (sym n) (record { inner = w.1.inner; waits = w.1.waits; same = w.1.same });
-        began = b;
-      })
+  asks_next (Asks q next) h h' f asked b w e n = (
+    ap (λ x. as_asked x []) e ∙ w.0,
+    record {
+      waits = subst (λ x. HostWaits loaded a x next) (sym n) (record { inner = w.1.inner; waits = w.1.waits; same = w.1.same });
+      began = b;
+    },
+  )
   asks_next (Ends (Finished s how)) h h' f asked b w e n = absurd w
   asks_next (Ends (RanOut k)) h h' f asked b w e n = absurd w
 

@@ -54,7 +54,7 @@ pub ends_again : (old now new : HostRun) (run : Configuration) (how : How) → n
     new ≡ record now { run = run; wait = host_wait.Start } → new ≡ old
 ends_again old now new run how e h r n =
     n ∙ (ap (λ x. record now { run = x; wait = host_wait.Start }) r
-        ∙ (ap (λ (x : HostRun). record x { wait = host_wait.Start }) e ∙ ap (λ w. record old { wait = w }) (sym h.1)))
+    ∙ (ap (λ (x : HostRun). record x { wait = host_wait.Start }) e ∙ ap (λ w. record old { wait = w }) (sym h.1)))
 
 module _ (loaded : FlatScript) (a : Around) where
   pub heard_at : (h : HostRun) (next : Heard → HostCourse) (x : Heard) (told : HostAnswer) → HostWaits loaded a h next →

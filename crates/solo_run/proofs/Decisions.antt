@@ -38,13 +38,13 @@ pub record Shows (at : ℕ) (q : Played LooseEnd) (items : List TraceItem) (tabl
 module _ (patterns : List (List ℕ)) (at : ℕ) (tables : Tables) where
   sent_if_readable : (to : Addr) (text : List ℕ) (b : Bool)
       → Shows at (played patterns at (loosely_sending (if b then record { to = to; text = text; branch = None } ∷ [] else []) Handled) tables)
-        (if b then Out at to text ∷ [] else []) tables
+      (if b then Out at to text ∷ [] else []) tables
   sent_if_readable to text true = record { shown = refl; tables_are = refl }
   sent_if_readable to text false = record { shown = refl; tables_are = refl }
 
   by_outcome : (p : Proxy) (r : Received) (source : Addr) (f : Facts) (how : How) (o : Outcome) → IsStateless o
       → Shows at (played patterns at (loosely_sending (outcome_sent p r source o []) (mark_by o (silent_mark r f how) Handled)) tables)
-        (shown_decision at r source f how o) tables
+      (shown_decision at r source f how o) tables
   by_outcome p r source f how Undecided h = record { shown = refl; tables_are = refl }
   by_outcome p r source f how (Stateless response) h =
       sent_if_readable (reply_address r.message.via source) (loose_response r source response) (is_readable (loose_response r source response))
@@ -76,8 +76,8 @@ malformed_runs_none b source (Some basis) = tt
 module _ (patterns : List (List ℕ)) (at : ℕ) where
   pub of_run : (p : Proxy) (r : Received) (source : Addr) (tables : Tables) (s : RunState) (how : How)
       → (let run = played patterns at (run_of p.script p.script.request (around_of p r) (beginning (loose_facts p r source))) tables in
-        run.end ≡ Finished s how → HasNoTransaction s.facts
-        → Shows at (played patterns at (loose_dialogue p source (Runs r)) tables) (run.shown ++ shown_decision at r source s.facts how s.facts.outcome) run.tables)
+      run.end ≡ Finished s how → HasNoTransaction s.facts
+      → Shows at (played patterns at (loose_dialogue p source (Runs r)) tables) (run.shown ++ shown_decision at r source s.facts how s.facts.outcome) run.tables)
   of_run p r source tables s how e h =
       let run = played patterns at (run_of p.script p.script.request (around_of p r) (beginning (loose_facts p r source))) tables in
       let whole = played_after patterns at (run_of p.script p.script.request (around_of p r) (beginning (loose_facts p r source))) (loosely_ended p r source) tables in
@@ -105,9 +105,9 @@ pub nothing_decided : (at : ℕ) (r : Received) (source : Addr) (f : Facts) (how
     → item_text (Drop at (if is_drop how then shown.ScriptDrop else shown.ScriptSilent)) ≡ items_text (shown_decision at r source f how f.outcome)
 nothing_decided at r source f how e h =
     rw (e, h.relay) (by_ack (is_ack r) (is_drop how)) where
-  by_ack : (ack drop : Bool) → item_text (Drop at (if drop then shown.ScriptDrop else shown.ScriptSilent))
-      ≡ items_text (shown_mark at (if ack && false then Dropped cause.AckUnroutable else if drop then Dropped cause.ScriptDrop else Dropped cause.ScriptSilent))
-  by_ack true true = sym (append-nil (item_text (Drop at shown.ScriptDrop)))
-  by_ack true false = sym (append-nil (item_text (Drop at shown.ScriptSilent)))
-  by_ack false true = sym (append-nil (item_text (Drop at shown.ScriptDrop)))
-  by_ack false false = sym (append-nil (item_text (Drop at shown.ScriptSilent)))
+      by_ack : (ack drop : Bool) → item_text (Drop at (if drop then shown.ScriptDrop else shown.ScriptSilent))
+          ≡ items_text (shown_mark at (if ack && false then Dropped cause.AckUnroutable else if drop then Dropped cause.ScriptDrop else Dropped cause.ScriptSilent))
+      by_ack true true = sym (append-nil (item_text (Drop at shown.ScriptDrop)))
+      by_ack true false = sym (append-nil (item_text (Drop at shown.ScriptSilent)))
+      by_ack false true = sym (append-nil (item_text (Drop at shown.ScriptDrop)))
+      by_ack false false = sym (append-nil (item_text (Drop at shown.ScriptSilent)))

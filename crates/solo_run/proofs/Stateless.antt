@@ -73,7 +73,7 @@ record_route_stateless : (a : Around) (r : Received) (s : RunState) → HasNoTra
 record_route_stateless a r s h =
     if_stateless s.facts.has_record_route _ _ h
     (if_stateless (not (fits s.facts.edits (Insert (record_route_place r.message.head.fields.items) (record_route_line a.settings.listen)))) _ _
-      (changed s.facts _ h refl refl refl) (changed s.facts _ h refl refl refl))
+    (changed s.facts _ h refl refl refl) (changed s.facts _ h refl refl refl))
 
 gone_stateless : (r : Received) (s : RunState) (w : Way) → HasNoTransaction s.facts → RowStateless (gone r s w)
 gone_stateless r s w h =

@@ -68,7 +68,13 @@ fn respond_to_fault(
 {
     let (code, reason) = fault_of(basis);
     match basis_reply(b, basis, source, code, reason, room.bytes.as_mut_slice()) {
-        Ok(len) => push_out(alloc, trace, at, basis_reply_to(basis, source), &room.bytes[..len]),
+        Ok(len) => push_out(
+            alloc,
+            trace,
+            at,
+            basis_reply_to(basis, source),
+            &room.bytes[..len],
+        ),
         Err(_) => push_drop(alloc, trace, at, Cause::TooLong),
     }
 }

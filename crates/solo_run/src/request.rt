@@ -15,6 +15,7 @@ ghost use Rattle.solo_run.specs.Running.{HasNoTransaction, RunsTo, facts_at_firs
 
 use crate::objects::Objects;
 use crate::rooms::Outgoing;
+use arrayvec::ArrayVec;
 use cfg_code::Loaded;
 use outside_ports::Addr;
 use pv_table::{BlockKind, Facts, FinalTimers, Outcome, Response, RunData, bytes_at};
@@ -23,7 +24,6 @@ use script_host::{Answer, HostRun, HostWent, Lent, MessageView, Settings, Worksh
 use sim_text::{Cause, push_drop, push_out};
 use sip_build::{reply, reply_to};
 use sip_msg::{Message, Start};
-use arrayvec::ArrayVec;
 use std::alloc::{AllocError as NoMemory, Global};
 
 /// The data of a run of `request_route` over a request from this source, which has decided nothing.
@@ -171,7 +171,14 @@ fn respond(
         (reply_address m.now.via source) (loose_response (received b.now m.now) source response.now))) }
 {
     let reason = response.reason.bytes();
-    match reply(b, m, source, response.code, reason, room.bytes.as_mut_slice()) {
+    match reply(
+        b,
+        m,
+        source,
+        response.code,
+        reason,
+        room.bytes.as_mut_slice(),
+    ) {
         Ok(len) => {
             let text = &room.bytes[..len];
             match Message::read_into(text, &mut room.reading) {

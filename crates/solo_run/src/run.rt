@@ -21,11 +21,12 @@ use outside_ports::{Addr, Arrival};
 use script_host::Workshop;
 use sim_text::{Cause, Scenario, push_drop, push_end};
 use sip_msg::{Message, Start};
-use txn_dialogue::laws::a_reading_is_the_message;
 use std::alloc::{AllocError as NoMemory, Global};
+use txn_dialogue::laws::a_reading_is_the_message;
 
 /// How many transactions and how many blocks a proxy has where a scenario doesn't say.
 const SLOTS: u32 = 2_048;
+
 const BLOCKS: u32 = 8_192;
 
 /// Runs the script over the scenario, and answers the trace.
@@ -119,7 +120,12 @@ impl Worker {
         match Message::read_into(b, &mut self.message) {
             Ok(()) => match self.message.start {
                 Start::Status { .. } => {
-                    push_drop(alloc, &mut self.objects.trace, arrival.at, Cause::StrayReply)
+                    push_drop(
+                        alloc,
+                        &mut self.objects.trace,
+                        arrival.at,
+                        Cause::StrayReply,
+                    )
                 }
                 Start::Request { .. } => self.run_request(alloc, loaded, settings, shop, arrival),
             },

@@ -12,5 +12,5 @@ use Rattle.solo_run.proofs.run.solo_trace.Given as goal
 abbrev pub invariant-loop-arrival : goal.invariant-loop-arrival
 invariant-loop-arrival l =
     ((script : Script) → Stands l.loaded script → LeavesOf (proxy_of script l.settings) (drop l.arrival-index l.arrival-items) l.worker.objects
-      (items_text (solo (proxy_of script l.settings) l.arrival-items (fresh_tables l.loaded.tables))))
+    (items_text (solo (proxy_of script l.settings) l.arrival-items (fresh_tables l.loaded.tables))))
     × (l.shop ≡ l.loaded.patterns)

@@ -20,4 +20,4 @@ pub returns-in-NoMemory-clause-next : goal.returns-in-NoMemory-clause-next
 returns-in-NoMemory-clause-next c = λ p before next w.
     short_next _ _ before _ c.advance.new.self c.restored.result (c.in-NoMemory.ensures.next p next w.waits)
     (c.restored.ensures ∙ (ap (λ f. as_before f (kept (state_of c.close-state-in-NoMemory.result.0))) w.began
-            ∙ ap (λ (d : RunData). as_before before (kept (state_of d))) c.close-state-in-NoMemory.ensures.end.0))
+    ∙ ap (λ (d : RunData). as_before before (kept (state_of d))) c.close-state-in-NoMemory.ensures.end.0))

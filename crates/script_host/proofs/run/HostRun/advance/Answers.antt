@@ -82,7 +82,7 @@ returns-in-Ended-clause-again c = λ how h.
 pub returns-in_default-clause-again : goal.returns-in_default-clause-again
 returns-in_default-clause-again c = λ how h.
     let lacks : left c.args.self.now.wait (state_of c.args.self.now.state) (as_heard c.args.answer) ≡ Ends (Lacks (state_of c.args.self.now.state)) =
-            c.in_default.ensures.lacks (state_of c.args.self.now.state) in
+    c.in_default.ensures.lacks (state_of c.args.self.now.state) in
     absurd (never_lacks c.args.self.now.wait _ _ h.1 lacks)
 
 pub returns-in-Ok-Asks-clause-again : goal.returns-in-Ok-Asks-clause-again

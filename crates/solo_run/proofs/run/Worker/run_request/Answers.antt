@@ -16,7 +16,7 @@ returns-clause-shown c = on_ok_weaker c.conclude.result (λ concluded script sta
     let runs = c.in_ok-data-2.ensures.end script stands in
     let new : Objects = record { tables = c.run_over.new.objects.tables; trace = c.conclude.new.trace } in
     subst (λ x. AreShownBy c.args.arrival.now.at (played_at (proxy_of script c.args.settings.now) c.args.arrival.now.at c.args.arrival.now.from
-      (Runs (received x c.args.self.now.message)) (tables_of c.args.self.now.objects)) c.args.self.now.objects new) c.as_slice-b.ensures
+    (Runs (received x c.args.self.now.message)) (tables_of c.args.self.now.objects)) c.args.self.now.objects new) c.as_slice-b.ensures
     (request_turn c.args.loaded.now script c.args.settings.now c.args.arrival.now.at c.args.arrival.now.from (received b c.args.self.now.message)
-      (state_of c.in_ok-data.data) c.args.self.now.objects c.run_over.new.objects new c.in_ok-data-2.data c.in_ok-data-2.how stands c.in_ok-data.ensures runs
-      (concluded runs.stateless) refl)) c.conclude.ensures
+    (state_of c.in_ok-data.data) c.args.self.now.objects c.run_over.new.objects new c.in_ok-data-2.data c.in_ok-data-2.how stands c.in_ok-data.ensures runs
+    (concluded runs.stateless) refl)) c.conclude.ensures
