@@ -22,7 +22,7 @@ use Rattle.host_meaning.specs.Ours.{is_myself}
 use Rattle.host_meaning.specs.Responses.{sl_send_reply}
 use Rattle.host_meaning.specs.Headers.{is_method, has_totag, is_present_hf, remove_hf, append_hf, mf_process_maxfwd_header, record_route}
 use Rattle.host_meaning.specs.Routing.{loose_route}
-use Rattle.host_meaning.specs.Transactions.{t_newtran, t_reply, t_on_branch, t_on_failure, t_on_reply, t_set_fr, t_check_trans, t_is_canceled}
+use Rattle.host_meaning.specs.Transactions.{t_newtran, t_reply, t_on_branch, t_on_failure, t_on_reply, t_set_fr, t_check_trans, t_is_canceled, t_check_status}
 use Rattle.host_meaning.specs.Relaying.{t_relay, append_branch}
 use Rattle.host_meaning.specs.Suspending.{t_suspend, t_continue}
 use Rattle.host_meaning.specs.TableRows.{asks_table, value_of_reply, written_by_reply, counted_by_reply, limit_written, xlog}
@@ -70,8 +70,7 @@ call_over a r func.TCheckTrans values s = t_check_trans r s
 call_over a r func.TIsCanceled values s = t_is_canceled s
 call_over a r func.TSuspend values s = t_suspend r s
 call_over a r (func.TContinue route) values s = t_continue a values route s
--- t_check_status has its row in `Transactions`; it starts when what a run never changes has the patterns of the script
-call_over a r (func.TCheckStatus pattern) values s = idle s
+call_over a r (func.TCheckStatus pattern) values s = t_check_status a.patterns pattern r s
 call_over a r func.Xlog values s = xlog (argument values 0) s
 call_over a r (func.ShtRmNameRe table pattern) values s = asks_table table (op.RemoveMatching pattern) counted_by_reply s
 call_over a r (func.ShtReset table) values s = asks_table table op.Reset counted_by_reply s

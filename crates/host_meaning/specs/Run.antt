@@ -20,17 +20,19 @@ pub record Received : Type 0 where
   pub bytes : List ℕ
   pub message : Message
 
--- what a run never changes: what the script and the start of the proxy set, and its message; an event block has none
+-- what a run never changes: what the script and the start of the proxy set, the patterns of the script by number, and its message; an
+-- event block has none
 pub record Around : Type 0 where
   pub parameters : Parameters
+  pub patterns : List (List ℕ)
   pub settings : Settings
   pub received : Option Received
 
 abbrev pub received : List ℕ → Message → Received
 received bytes message = record { bytes = bytes; message = message }
 
-abbrev pub around : Parameters → Settings → Option Received → Around
-around parameters settings received = record { parameters = parameters; settings = settings; received = received }
+abbrev pub around : Parameters → List (List ℕ) → Settings → Option Received → Around
+around parameters patterns settings received = record { parameters = parameters; patterns = patterns; settings = settings; received = received }
 
 -- what a run has: its facts, and how many blocks it holds
 pub record RunState : Type 0 where

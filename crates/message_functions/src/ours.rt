@@ -1,5 +1,5 @@
 //! Which URIs are this proxy's, and which are a loose router's.
-ghost use Rattle.std.specs.Prelude.{◌≡◌, ℕ, IfSome, Option, length, ◌++◌, ◌||◌};
+ghost use Rattle.std.specs.Prelude.{◌≡◌, ℕ, List, IfSome, Option, length, ◌++◌, ◌||◌};
 ghost use Rattle.std.specs.List.{list_any};
 ghost use Rattle.std.specs.Str.{str_eq_ignore_ascii_case};
 ghost use Rattle.sip_fields.specs.Uri.{uri_at, IsUriBetween};
@@ -56,7 +56,7 @@ fn is_alias(aliases: &[Text], host: &[u8]) -> bool
 
 /// Whether the text is a URI of this proxy.
 pub fn is_ours(text: &[u8], settings: &Settings, parameters: &Parameters) -> bool
-    ensures { (received : Option Received) → result ≡ is_ours (around parameters.now settings.now received) text.now }
+    ensures { (patterns : List (List ℕ)) (received : Option Received) → result ≡ is_ours (around parameters.now patterns settings.now received) text.now }
 {
     let Some(uri) = uri_in(text) else {
         return false;
@@ -82,7 +82,7 @@ pub fn is_loose(text: &[u8]) -> bool
 
 /// `uri == myself`: the target is a URI of this proxy. A reply block and an event block have no target.
 pub fn is_myself(facts: &Facts, settings: &Settings, parameters: &Parameters) -> bool
-    ensures { (received : Option Received) (blocks : ℕ) → result ≡ is_myself (around parameters.now settings.now received) (record { facts = facts.now; blocks = blocks }) }
+    ensures { (patterns : List (List ℕ)) (received : Option Received) (blocks : ℕ) → result ≡ is_myself (around parameters.now patterns settings.now received) (record { facts = facts.now; blocks = blocks }) }
 {
     match facts.kind {
         BlockKind::Request | BlockKind::Branch | BlockKind::Failure => {

@@ -134,7 +134,7 @@ impl<'a> Way<'a> {
     fn from_strict(self, b: &'a [u8], settings: &Settings, parameters: &Parameters) -> Way<'a>
         requires lie { All (LiesIn b.now) self.left.now }
         requires room { length self.cut.items ≤ 0 }
-        ensures way { (received : Option Received) → shown result ≡ from_strict (around parameters.now settings.now received) b.now (shown self.entry) }
+        ensures way { (patterns : List (List ℕ)) (received : Option Received) → shown result ≡ from_strict (around parameters.now patterns settings.now received) b.now (shown self.entry) }
         ensures lie { All (LiesIn b.now) result.left.now }
         ensures room { length result.cut.items ≤ 1 }
     {
@@ -160,7 +160,7 @@ impl<'a> Way<'a> {
     fn top_cut(self, b: &'a [u8], settings: &Settings, parameters: &Parameters) -> Way<'a>
         requires lie { All (LiesIn b.now) self.left.now }
         requires room { length self.cut.items ≤ 1 }
-        ensures way { (received : Option Received) → shown result ≡ top_cut (around parameters.now settings.now received) b.now (shown self.entry) self.entry.left.now }
+        ensures way { (patterns : List (List ℕ)) (received : Option Received) → shown result ≡ top_cut (around parameters.now patterns settings.now received) b.now (shown self.entry) self.entry.left.now }
         ensures lie { All (LiesIn b.now) result.left.now }
         ensures room { length result.cut.items ≤ 2 }
     {
@@ -223,7 +223,7 @@ fn way_of<'a>(
     parameters: &Parameters,
 ) -> Way<'a>
     requires { All (LiesIn b.now) values.now }
-    ensures { (received : Option Received) → shown result ≡ way (around parameters.now settings.now received) b.now values.now uri.now (option_copied destination.entry) }
+    ensures { (patterns : List (List ℕ)) (received : Option Received) → shown result ≡ way (around parameters.now patterns settings.now received) b.now values.now uri.now (option_copied destination.entry) }
 {
     let way = Way {
         uri,
@@ -430,7 +430,7 @@ fn first_call(
     parameters: &Parameters,
 ) -> Result<i64, NoMemory>
     requires { Reads b.now m.now }
-    ensures ok { IfOk result (λ n. let r = received b.now m.now in ComesTo (first_call (around parameters.now settings.now (Some r)) r) facts.old n (record facts.new { loose_route = Some n })) }
+    ensures ok { IfOk result (λ n. (patterns : List (List ℕ)) → let r = received b.now m.now in ComesTo (first_call (around parameters.now patterns settings.now (Some r)) r) facts.old n (record facts.new { loose_route = Some n })) }
     ensures err { OnErr result (facts.new ≡ facts.old) }
 {
     let fields = m.head.fields.as_slice();
@@ -460,7 +460,7 @@ pub fn loose_route(
     parameters: &Parameters,
 ) -> Result<i64, NoMemory>
     requires { Reads b.now m.now }
-    ensures ok { IfOk result (λ n. let r = received b.now m.now in ComesTo (loose_route (around parameters.now settings.now (Some r)) r) facts.old n facts.new) }
+    ensures ok { IfOk result (λ n. (patterns : List (List ℕ)) → let r = received b.now m.now in ComesTo (loose_route (around parameters.now patterns settings.now (Some r)) r) facts.old n facts.new) }
     ensures err { OnErr result (facts.new ≡ facts.old) }
 {
     if let Some(code) = facts.loose_route {

@@ -11,7 +11,7 @@ received_of None = None
 received_of (Some m) = Some (received m.bytes.now m.message.now)
 
 abbrev pub around_of : Lent → Around
-around_of l = around l.loaded.now.parameters l.settings.now (received_of l.message)
+around_of l = around l.loaded.now.parameters l.loaded.now.patterns l.settings.now (received_of l.message)
 
 -- the reading is that of the bytes
 abbrev pub IsReading : Received → Type 0

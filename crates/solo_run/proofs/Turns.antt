@@ -29,19 +29,19 @@ use Rattle.solo_run.proofs.Decisions.{RunsNoBlock, of_run, of_no_run}
 -- a request whose run came to this, and whose decision was shown
 pub request_turn : (loaded : FlatScript) (script : Script) (settings : Settings) (at : ℕ) (source : Addr) (r : Received) (s : RunState)
     (old mid new : Objects) (d : RunData) (how : How) → Stands loaded script → s ≡ beginning (facts_at_first loaded.parameters r source)
-    → RunsTo loaded.patterns (around loaded.parameters settings (Some r)) at script s old d how mid
+    → RunsTo loaded.patterns (around loaded.parameters loaded.patterns settings (Some r)) at script s old d how mid
     → new.trace.items ≡ mid.trace.items ++ items_text (shown_decision at r source d.facts how d.facts.outcome)
     → new.tables ≡ mid.tables
     → AreShownBy at (played_at (proxy_of script settings) at source (Runs r) (tables_of old)) old new
 request_turn loaded script settings at source r s old mid new d how stands first runs shown same =
-    let begun : RunsTo loaded.patterns (around loaded.parameters settings (Some r)) at script (beginning (facts_at_first loaded.parameters r source)) old d how mid =
-    subst (λ x. RunsTo loaded.patterns (around loaded.parameters settings (Some r)) at script x old d how mid) first runs in
-    let by_patterns : RunsTo script.patterns (around loaded.parameters settings (Some r)) at script (beginning (facts_at_first loaded.parameters r source)) old d how mid =
-    subst (λ x. RunsTo x (around loaded.parameters settings (Some r)) at script (beginning (facts_at_first loaded.parameters r source)) old d how mid) stands.patterns begun in
-    let run : RunsTo script.patterns (around script.parameters settings (Some r)) at script (beginning (facts_at_first script.parameters r source)) old d how mid =
-    subst (λ x. RunsTo script.patterns (around x settings (Some r)) at script (beginning (facts_at_first x r source)) old d how mid) stands.parameters by_patterns in
+    let begun : RunsTo loaded.patterns (around loaded.parameters loaded.patterns settings (Some r)) at script (beginning (facts_at_first loaded.parameters r source)) old d how mid =
+    subst (λ x. RunsTo loaded.patterns (around loaded.parameters loaded.patterns settings (Some r)) at script x old d how mid) first runs in
+    let by_patterns : RunsTo script.patterns (around loaded.parameters script.patterns settings (Some r)) at script (beginning (facts_at_first loaded.parameters r source)) old d how mid =
+    subst (λ x. RunsTo x (around loaded.parameters x settings (Some r)) at script (beginning (facts_at_first loaded.parameters r source)) old d how mid) stands.patterns begun in
+    let run : RunsTo script.patterns (around script.parameters script.patterns settings (Some r)) at script (beginning (facts_at_first script.parameters r source)) old d how mid =
+    subst (λ x. RunsTo script.patterns (around x script.patterns settings (Some r)) at script (beginning (facts_at_first x r source)) old d how mid) stands.parameters by_patterns in
     let decision = shown_decision at r source d.facts how d.facts.outcome in
-    let played = played_run script.patterns (around script.parameters settings (Some r)) at script (beginning (facts_at_first script.parameters r source)) (tables_of old) in
+    let played = played_run script.patterns (around script.parameters script.patterns settings (Some r)) at script (beginning (facts_at_first script.parameters r source)) (tables_of old) in
     let shows = of_run script.patterns at (proxy_of script settings) r source (tables_of old) (state_of d) how run.end run.stateless in
     record {
       trace = shown ∙ ap (λ (t : List ℕ). t ++ items_text decision) run.shown.trace

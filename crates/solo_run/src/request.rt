@@ -76,7 +76,7 @@ pub(crate) fn run_over<'a>(
     requires patterns { shop.old ≡ loaded.now.patterns }
     requires stateless { HasNoTransaction «data».facts }
     ensures end { IfOk result (λ r. (script : Script) → Stands loaded.now script
-        → RunsTo loaded.now.patterns (around loaded.now.parameters settings.now (Some (received b.now m.now))) at script (state_of «data») objects.old r.0 r.1 objects.new) }
+        → RunsTo loaded.now.patterns (around loaded.now.parameters loaded.now.patterns settings.now (Some (received b.now m.now))) at script (state_of «data») objects.old r.0 r.1 objects.new) }
     ensures same { shop.new ≡ shop.old }
 {
     let lent = Lent {

@@ -292,7 +292,7 @@ module _ (loose short : Bool) (base : ℕ) where
   over_fine a r q func.TIsCanceled values s = answers s s _ refl
   over_fine a r q func.TSuspend values s = suspend_fine r s q
   over_fine a r q (func.TContinue route) values s = continue_fine a values route s
-  over_fine a r q (func.TCheckStatus pattern) values s = refl
+  over_fine a r q (func.TCheckStatus pattern) values s = answers s s _ refl
   over_fine a r q func.Xlog values s = logs (argument values 0) s
   over_fine a r q (func.ShtRmNameRe t pattern) values s = table t (op.RemoveMatching pattern) counted_by_reply s count_fits
   over_fine a r q (func.ShtReset t) values s = table t op.Reset counted_by_reply s count_fits

@@ -17,7 +17,7 @@ use Rattle.txn_dialogue.specs.Memory.{short}
 
 -- what a run of the script over a message never changes
 abbrev pub around_of : Proxy → Received → Around
-around_of p r = around p.script.parameters p.settings (Some r)
+around_of p r = around p.script.parameters p.script.patterns p.settings (Some r)
 
 -- how the transaction stands
 abbrev pub standing_of : Work → Standing

@@ -33,7 +33,7 @@ pub returns-in_ok-code-in-LooseRoute-clause-row : goal.returns-in_ok-code-in-Loo
 returns-in_ok-code-in-LooseRoute-clause-row c =
     let fits : SFits w64 c.in_ok-code-in-LooseRoute.code = search rules in
     coded_as (around_of c.args.lent.now) (received c.args.message.bytes.now c.args.message.message.now) c.args.function.now func.LooseRoute c.args.values.now c.in_ok-code-in-LooseRoute.code (to_z-of_z w64 c.in_ok-code-in-LooseRoute.code fits) c.code-in-LooseRoute.ensures c.args.facts.now c.loose_route.new.facts c.in-LooseRoute.is
-    (λ blocks. ap (λ p. loose_route (around p c.args.lent.now.settings.now (around_of c.args.lent.now).received) (received c.args.message.bytes.now c.args.message.message.now) (with_blocks c.args.facts.now blocks)) (ap (λ (l : FlatScript). l.parameters) (sym c.loaded.view_is)) ∙ c.in_ok-code-in-LooseRoute.ensures.ok blocks)
+    (λ blocks. ap (λ p. loose_route (around p (around_of c.args.lent.now).patterns c.args.lent.now.settings.now (around_of c.args.lent.now).received) (received c.args.message.bytes.now c.args.message.message.now) (with_blocks c.args.facts.now blocks)) (ap (λ (l : FlatScript). l.parameters) (sym c.loaded.view_is)) ∙ c.in_ok-code-in-LooseRoute.ensures.ok (around_of c.args.lent.now).patterns blocks)
 
 pub returns-in-ShtRmNameRe-clause-row : goal.returns-in-ShtRmNameRe-clause-row
 returns-in-ShtRmNameRe-clause-row c =

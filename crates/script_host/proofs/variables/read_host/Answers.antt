@@ -35,5 +35,5 @@ pub returns-in-Myself : goal.returns-in-Myself
 returns-in-Myself c =
     read_under (around_of c.args.lent.now) (row.Tells (told.Value c.bit_value.result)) pv.Myself _ c.args.facts.now (sym c.in-Myself.is)
     (λ blocks. ap (λ v. told_value v (with_blocks c.args.facts.now blocks))
-    (ap (λ p. bit (is_myself (around p c.args.lent.now.settings.now (around_of c.args.lent.now).received) (with_blocks c.args.facts.now blocks))) (ap (λ (l : FlatScript). l.parameters) (sym c.loaded.view_is))
-    ∙ sym (c.bit_value.ensures ∙ ap bit (c.is_myself-ours.ensures (around_of c.args.lent.now).received blocks))))
+    (ap (λ p. bit (is_myself (around p (around_of c.args.lent.now).patterns c.args.lent.now.settings.now (around_of c.args.lent.now).received) (with_blocks c.args.facts.now blocks))) (ap (λ (l : FlatScript). l.parameters) (sym c.loaded.view_is))
+    ∙ sym (c.bit_value.ensures ∙ ap bit (c.is_myself-ours.ensures (around_of c.args.lent.now).patterns (around_of c.args.lent.now).received blocks))))
