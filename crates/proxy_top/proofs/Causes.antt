@@ -1,5 +1,5 @@
 -- Where the folder is told, the words and the files leave one ending, besides that of a fault.
-use Rattle.std.proofs.Common.{◌≡◌, ℕ, ◌≤◌, inl, inr, List, Option, length, sym, ap, ◌∙◌, subst, arith}
+use Rattle.std.proofs.Common.{◌≡◌, ℕ, ◌≤◌, inl, inr, List, Option, length, refl, sym, ap, ◌∙◌, subst, arith}
 use Rattle.outside_ports.specs.Files.{Folder}
 use Rattle.outside_ports.specs.Told.{Grows}
 use Rattle.pv_values.specs.declared.refusal.Place.{Place}

@@ -1,5 +1,5 @@
 -- What words and a folder that is told leave: one file of the script, one text of each file, and one way in which it ends.
-use Rattle.std.proofs.Common.{◌≡◌, ℕ, ◌<◌, ◌≤◌, inl, inr, List, Option, Some, length, sym, ap, ◌∙◌, subst, arith}
+use Rattle.std.proofs.Common.{◌≡◌, ℕ, ◌<◌, ◌≤◌, inl, inr, List, Option, Some, length, refl, sym, ap, ◌∙◌, subst, arith}
 use Rattle.std.specs.Prelude.{IfSome, IsSomeAnd}
 use Rattle.outside_ports.specs.Files.{Folder, Holds, IsLonger}
 use Rattle.pv_values.specs.declared.refusal.Place.{Place}
@@ -86,3 +86,10 @@ long_not_read words folder r file script names h =
     let text = long_once folder r.file file r.files r.text h.text r.told r.held same h.held in
     let short : length r.text ≤ 1048576 = subst (λ (x : List ℕ). length x ≤ 1048576) text (accepted_is_short h.text script h.accepted) in
     absurd (omega (arith, short, r.long))
+
+-- each command names its first file as that of the script
+pub check_names : (words : List (List ℕ)) (file : List ℕ) → words ≡ check_words file → NamesScript words file
+check_names words file h = inl h
+
+pub sim_names : (file scenario : List ℕ) → NamesScript (sim_words file scenario) file
+sim_names file scenario = inr (scenario, refl)

@@ -10,8 +10,6 @@ use Rattle.cfg_tree.specs.declared.refusal_kind.RefusalKind.TheVariants.{Syntax,
 use Rattle.cfg_tree.specs.RefusalKinds.{refusal_number}
 use Rattle.proxy_top.specs.declared.top.Ending.{Ending}
 use Rattle.proxy_top.specs.declared.top.Ending.TheVariants as outcome
-use Rattle.proxy_top.specs.declared.top.Stop.{Stop}
-use Rattle.proxy_top.specs.declared.top.Stop.TheVariants as stop
 use Rattle.proxy_top.specs.Accept.{AcceptsText, RefusesText}
 use Rattle.proxy_top.specs.Commands.{check_words, sim_words, IsNoCommand}
 use Rattle.sim_text.specs.Scenario.{Contents, IsScenario, IsFirstWrong}
@@ -129,11 +127,6 @@ IsEnding words folder old_faults new_faults outcome.Usage = IsNoCommand words
 IsEnding words folder old_faults new_faults (outcome.Refused kind at) = IsRefusedByCommand words folder kind at
 IsEnding words folder old_faults new_faults (outcome.WrongLine line) = IsWrongLine words folder line
 IsEnding words folder old_faults new_faults (outcome.Unread name) = IsUnread words folder old_faults new_faults name.now
-
--- a command that stops before its end has ended so, or is out of memory
-abbrev pub StopsSo : List (List ℕ) → Option Folder → (List ℕ → ℕ) → (List ℕ → ℕ) → Stop → Type 0
-StopsSo words folder old_faults new_faults (stop.Ended ending) = IsEnding words folder old_faults new_faults ending
-StopsSo words folder old_faults new_faults stop.NoMemory = Unit {0}
 
 abbrev pub status_of : Ending → ℕ
 status_of outcome.Accepted = 0

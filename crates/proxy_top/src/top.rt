@@ -6,6 +6,8 @@ ghost use Rattle.outside_ports.specs.Told.{Grows};
 ghost use Rattle.pv_values.specs.declared.refusal.Place.{Place};
 ghost use Rattle.cfg_tree.specs.declared.refusal_kind.RefusalKind.TheVariants.{TooLarge};
 ghost use Rattle.cfg_tree.specs.RefusalKinds.{refusal_number};
+ghost use Rattle.sim_text.specs.Scenario.{contents_of};
+ghost use Rattle.solo_run.specs.Solo.{solo_trace};
 ghost use Rattle.proxy_top.specs.Commands.{words_of, sim_words, IsNoCommand};
 ghost use Rattle.proxy_top.specs.Endings.{
   IsEnding,
@@ -24,7 +26,6 @@ ghost use Rattle.proxy_top.specs.Endings.{
   PrintsMemory,
   NamesScript,
   ReadsScript,
-  StopsSo,
   IsMalformedScenario,
   IsReady,
   place,
@@ -44,7 +45,7 @@ use cfg_tree::ClosedScript;
 use numerals::push_number;
 use outside_ports::{Console, FileFault, Files, PrintEnd};
 use pv_values::{Place, ScriptFault};
-use sim_text::{ScenarioFault, read_scenario};
+use sim_text::{Scenario, ScenarioFault, read_scenario};
 use solo_run::solo_trace;
 use std::alloc::{AllocError as NoMemory, Global};
 
@@ -170,8 +171,8 @@ fn run_and_print<F: Files, C: Console>(
     ensures shortages_never_fall { C.shortages console.old ≤ C.shortages console.new }
 {
     match run_command(alloc, words, files) {
-        Ok(ending) | Err(Stop::Ended(ending)) => report(alloc, ending, console),
-        Err(Stop::NoMemory) => report_no_memory(console),
+        Ok(ending) => report(alloc, ending, console),
+        Err(NoMemory) => report_no_memory(console),
     }
 }
 
@@ -270,97 +271,89 @@ fn refused_line(alloc: Global, kind: u8, at: Place) -> Result<Vec<u8>, NoMemory>
 const USAGE: &[u8] =
     b"usage: sipscript check FILE, sim FILE SCENARIO, load N, serve FILE [options]\n";
 
-/// Why a command stops before its end.
-#[derive(Drop)]
-enum Stop<'a> {
-    /// It has ended so.
-    Ended(Ending<'a>),
-    NoMemory,
-}
-
-impl From<NoMemory> for Stop<'_> {
-    fn from(_: NoMemory) -> Self
-        ensures { result ≡ Stop.NoMemory }
-    {
-        Stop::NoMemory
-    }
-}
-
+#[tactic(auto, using(crate::proofs::Files::check_names))]
 fn run_command<'a, F: Files>(
     alloc: Global,
     words: &'a [String],
     files: &mut F,
-) -> Result<Ending<'a>, Stop<'a>>
+) -> Result<Ending<'a>, NoMemory>
     ensures ended { IfOk result (IsEnding (words_of words.entry.now) (F.folder files.old) (F.faults files.old) (F.faults files.new)) }
-    ensures stopped { IfErr result (StopsSo (words_of words.entry.now) (F.folder files.old) (F.faults files.old) (F.faults files.new)) }
     ensures same { F.folder files.new ≡ F.folder files.old }
     ensures never_falls { (name : List ℕ) → F.faults files.old name ≤ F.faults files.new name }
 {
     match read_command(words) {
-        Some(Command::Check { script }) => {
-            read_script(alloc, script, files)?;
-            Ok(Ending::Accepted)
-        }
+        Some(Command::Check { script }) => match read_script(alloc, script, files)? {
+            Ok(_) => Ok(Ending::Accepted),
+            Err(ending) => Ok(ending),
+        },
         Some(Command::Sim { script, scenario }) => sim(alloc, script, scenario, files),
         None => Ok(Ending::Usage),
     }
 }
 
-/// The script of the file.
+/// The script of the file, or how a command ends that has none.
 fn read_script<'a, F: Files>(
     alloc: Global,
     file: &'a str,
     files: &mut F,
-) -> Result<ClosedScript, Stop<'a>>
-    ensures accepted { IfOk result (ReadsScript (F.folder files.old) file.entry.now) }
-    ensures stopped { IfErr result (λ stop. (words : List (List ℕ)) → NamesScript words file.entry.now
-        → StopsSo words (F.folder files.old) (F.faults files.old) (F.faults files.new) stop) }
+) -> Result<Result<ClosedScript, Ending<'a>>, NoMemory>
+    ensures accepted { IfOk result (λ r. IfOk r (ReadsScript (F.folder files.old) file.entry.now)) }
+    ensures ended { IfOk result (λ r. IfErr r (λ ending. (words : List (List ℕ)) → NamesScript words file.entry.now
+        → IsEnding words (F.folder files.old) (F.faults files.old) (F.faults files.new) ending)) }
     ensures same { F.folder files.new ≡ F.folder files.old }
     ensures never_falls { (name : List ℕ) → F.faults files.old name ≤ F.faults files.new name }
 {
     let text = match files.read(alloc, file, LONGEST_SCRIPT) {
         Ok(text) => text,
-        Err(FileFault::Failed) => return Err(Stop::Ended(Ending::Unread(file))),
+        Err(FileFault::Failed) => return Ok(Err(Ending::Unread(file))),
         Err(FileFault::TooLong) => {
-            return Err(Stop::Ended(Ending::Refused {
+            return Ok(Err(Ending::Refused {
                 kind: TOO_LARGE,
                 at: PAST_LONGEST,
             }));
         }
-        Err(FileFault::NoMemory) => return Err(Stop::NoMemory),
+        Err(FileFault::NoMemory) => return Err(NoMemory),
     };
     match accepted(alloc, text.as_slice()) {
-        Ok(script) => Ok(script),
-        Err(ScriptFault::Refused { kind, at }) => Err(Stop::Ended(Ending::Refused { kind, at })),
-        Err(ScriptFault::NoMemory) => Err(Stop::NoMemory),
+        Ok(script) => Ok(Ok(script)),
+        Err(ScriptFault::Refused { kind, at }) => Ok(Err(Ending::Refused { kind, at })),
+        Err(ScriptFault::NoMemory) => Err(NoMemory),
     }
 }
 
 /// `sim FILE SCENARIO`: the script file, the script, the scenario file, the scenario, then the run.
+#[tactic(auto, using(crate::proofs::Files::sim_names))]
 fn sim<'a, F: Files>(
     alloc: Global,
     file: &'a str,
     scenario: &'a str,
     files: &mut F,
-) -> Result<Ending<'a>, Stop<'a>>
+) -> Result<Ending<'a>, NoMemory>
     ensures ended { IfOk result (IsEnding (sim_words file.entry.now scenario.entry.now) (F.folder files.old) (F.faults files.old) (F.faults files.new)) }
-    ensures stopped { IfErr result (StopsSo (sim_words file.entry.now scenario.entry.now) (F.folder files.old) (F.faults files.old) (F.faults files.new)) }
     ensures same { F.folder files.new ≡ F.folder files.old }
     ensures never_falls { (name : List ℕ) → F.faults files.old name ≤ F.faults files.new name }
 {
-    let script = read_script(alloc, file, files)?;
+    let script = match read_script(alloc, file, files)? {
+        Ok(script) => script,
+        Err(ending) => return Ok(ending),
+    };
     let lines = match files.read(alloc, scenario, LONGEST_SCENARIO) {
         Ok(lines) => lines,
         Err(FileFault::Failed) => return Ok(Ending::Unread(scenario)),
         Err(FileFault::TooLong) => return Ok(Ending::WrongLine(0)),
-        Err(FileFault::NoMemory) => return Err(Stop::NoMemory),
+        Err(FileFault::NoMemory) => return Err(NoMemory),
     };
     match read_scenario(alloc, lines.as_slice()) {
-        Ok(scenario) => {
-            let loaded = compile(alloc, script)?;
-            Ok(Ending::Ran(solo_trace(alloc, &loaded, scenario)?))
-        }
+        Ok(scenario) => Ok(Ending::Ran(trace_of(alloc, script, scenario)?)),
         Err(ScenarioFault::Line(number)) => Ok(Ending::WrongLine(number)),
-        Err(ScenarioFault::NoMemory) => Err(Stop::NoMemory),
+        Err(ScenarioFault::NoMemory) => Err(NoMemory),
     }
+}
+
+/// The trace of the script over the scenario.
+fn trace_of(alloc: Global, script: ClosedScript, scenario: Scenario) -> Result<Vec<u8>, NoMemory>
+    ensures { IfOk result (λ trace. trace.items ≡ solo_trace script (contents_of scenario)) }
+{
+    let loaded = compile(alloc, script)?;
+    solo_trace(alloc, &loaded, scenario)
 }
