@@ -203,30 +203,47 @@ fn field(alloc: Global, bytes: usize) -> Result<Vec<u8>, AllocError> {
     Ok(text)
 }
 
-/// The kind of the block, the bytes of the field that is put behind a response of 8,192 bytes, and the code.
-const LONG: [(BlockKind, usize, i64); 3] = [
-    (BlockKind::Reply, 64, 1),
-    (BlockKind::Reply, 65, -3),
-    (BlockKind::Request, 65, 1),
+/// A response of 8,192 bytes.
+fn long_response(alloc: Global) -> Result<Vec<u8>, AllocError> {
+    let mut text = Vec::from_slice(alloc, RESPONSE.as_bytes())?;
+    let left = 8190 - RESPONSE.len();
+    text.extend_from_slice(field(alloc, left)?.as_slice())?;
+    text.extend_from_slice(b"\r\n")?;
+    Ok(text)
+}
+
+/// The code of `append_hf` with a field of so many bytes in a block of this kind over the message, and how many edits are made.
+fn appended(
+    rt: &impl Abort,
+    alloc: Global,
+    b: &[u8],
+    kind: BlockKind,
+    bytes: usize,
+) -> Result<(i64, usize), AllocError> {
+    let m = message(rt, b);
+    let mut of_run = facts(alloc, kind, "sip:b@192.0.2.9")?;
+    let mut room = TextRoom::new(alloc)?;
+    let more = field(alloc, bytes)?;
+    let code = append_hf(alloc, b, &m, &mut of_run, more.as_slice(), &mut room)?;
+    Ok((code, of_run.edits.len()))
+}
+
+/// The kind of the block, the bytes of the field that is put behind a response of 8,192 bytes, the code and how many edits
+/// are made.
+const LONG: [(BlockKind, usize, (i64, usize)); 3] = [
+    (BlockKind::Reply, 64, (1, 1)),
+    (BlockKind::Reply, 65, (-3, 0)),
+    (BlockKind::Request, 65, (1, 1)),
 ];
 
 #[test]
 fn a_response_stays_within_8192_bytes(rt: HostRuntime) -> Result<(), Fail> {
     let alloc = rt.alloc();
-    let mut text = Vec::from_slice(alloc, RESPONSE.as_bytes())?;
-    let left = 8190 - RESPONSE.len();
-    text.extend_from_slice(field(alloc, left)?.as_slice())?;
-    text.extend_from_slice(b"\r\n")?;
-    let b = text.as_slice();
-    assert_eq!(rt; b.len(), 8192);
-    let m = message(&rt, b);
-    let mut room = TextRoom::new(alloc)?;
-    for (kind, bytes, code) in &LONG {
-        let mut of_run = facts(alloc, *kind, "sip:b@192.0.2.9")?;
-        let more = field(alloc, *bytes)?;
-        let found = append_hf(alloc, b, &m, &mut of_run, more.as_slice(), &mut room)?;
-        assert_eq!(rt; found, *code, "{kind:?}, {bytes} bytes");
-        assert_eq!(rt; of_run.edits.len(), if *code == 1 { 1 } else { 0 });
+    let text = long_response(alloc)?;
+    assert_eq!(rt; text.len(), 8192);
+    for (kind, bytes, wanted) in &LONG {
+        let found = appended(&rt, alloc, text.as_slice(), *kind, *bytes)?;
+        assert_eq!(rt; found, *wanted, "{kind:?}, {bytes} bytes");
     }
     Ok(())
 }

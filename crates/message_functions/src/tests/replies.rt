@@ -15,24 +15,47 @@ const BYE: &str =
 const RESPONSE: &str =
     "SIP/2.0 200 \r\nVia: SIP/2.0/UDP 192.0.2.1:5060;branch=z9hG4bK6a;received=192.0.2.9\r\nFrom: <sip:a@192.0.2.1>;tag=a\r\nTo: <sip:b@192.0.2.9>;tag=t\r\nCall-ID: 6\r\nCSeq: 1 BYE\r\nContent-Length: 0\r\n\r\n";
 
-/// The code of `sl_send_reply("200", reason)` in a run with these facts, which keeps the response where it is 1.
-fn code_of(
+/// What a run has decided before.
+#[derive(Clone, Copy)]
+enum Before {
+    Nothing,
+    Transaction,
+    Outcome,
+}
+
+/// The facts of a run that has decided this.
+fn decided(alloc: Global, before: Before) -> Result<Facts, AllocError> {
+    let mut of_run = facts(alloc, BlockKind::Request, "sip:b@192.0.2.9")?;
+    match before {
+        Before::Nothing => {}
+        Before::Transaction => of_run.standing.exists = true,
+        Before::Outcome => of_run.outcome = Outcome::Suspended,
+    }
+    Ok(of_run)
+}
+
+/// The outcome is the response with the code 200 and this reason.
+fn is_kept(outcome: &Outcome, reason: &[u8]) -> bool {
+    match outcome {
+        Outcome::Stateless(response) => response.code == 200 && response.reason.bytes() == reason,
+        _ => false,
+    }
+}
+
+/// The code of `sl_send_reply("200", reason)`, and whether the response is kept.
+fn replied(
     rt: &impl Abort,
     alloc: Global,
     b: &[u8],
-    of_run: &mut Facts,
+    before: Before,
     reason: &[u8],
-) -> Result<i64, AllocError> {
+) -> Result<(i64, bool), AllocError> {
     let m = message(rt, b);
+    let mut of_run = decided(alloc, before)?;
     let mut room = TextRoom::new(alloc)?;
     let text = Text::from_slice(alloc, reason)?;
-    let code = sl_send_reply(b, &m, of_run, 200, text, &mut room);
-    let is_kept = match &of_run.outcome {
-        Outcome::Stateless(response) => response.code == 200 && response.reason.bytes() == reason,
-        _ => false,
-    };
-    assert_eq!(rt; is_kept, code == 1);
-    Ok(code)
+    let code = sl_send_reply(b, &m, &mut of_run, 200, text, &mut room);
+    Ok((code, is_kept(&of_run.outcome, reason)))
 }
 
 /// A reason, and the code.
@@ -50,29 +73,42 @@ const REASONS: [(&str, i64); 8] = [
 
 #[test]
 fn a_reason_is_one_line(rt: HostRuntime) -> Result<(), Fail> {
-    let alloc = rt.alloc();
     for (reason, code) in &REASONS {
-        let mut of_run = facts(alloc, BlockKind::Request, "sip:b@192.0.2.9")?;
-        let found = code_of(&rt, alloc, BYE.as_bytes(), &mut of_run, reason.as_bytes())?;
-        assert_eq!(rt; found, *code, "{reason:?}");
+        let b = BYE.as_bytes();
+        let found = replied(&rt, rt.alloc(), b, Before::Nothing, reason.as_bytes())?;
+        assert_eq!(rt; found, (*code, *code == 1), "{reason:?}");
     }
     Ok(())
 }
 
 #[test]
+fn an_ack_a_transaction_and_an_outcome_take_no_response(rt: HostRuntime) -> Result<(), Fail> {
+    let alloc = rt.alloc();
+    let ack = request(alloc, "")?;
+    let found = replied(&rt, alloc, ack.as_slice(), Before::Nothing, b"OK")?;
+    assert_eq!(rt; found, (-1, false));
+    for before in &[Before::Transaction, Before::Outcome] {
+        let found = replied(&rt, alloc, BYE.as_bytes(), *before, b"OK")?;
+        assert_eq!(rt; found, (-1, false));
+    }
+    Ok(())
+}
+
+/// A text of so many bytes.
+fn long(alloc: Global, bytes: usize) -> Result<Vec<u8>, AllocError> {
+    vec![in alloc; b'a'; bytes]
+}
+
+#[test]
 fn a_response_has_at_most_8192_bytes(rt: HostRuntime) -> Result<(), Fail> {
     let alloc = rt.alloc();
-    let mut reason = Vec::new(alloc);
-    for _ in RESPONSE.len()..8192 {
-        reason.push(b'a')?;
+    let room = 8192 - RESPONSE.len();
+    for (bytes, code) in &[(room, 1), (room + 1, -3)] {
+        let reason = long(alloc, *bytes)?;
+        let b = BYE.as_bytes();
+        let found = replied(&rt, alloc, b, Before::Nothing, reason.as_slice())?;
+        assert_eq!(rt; found, (*code, *code == 1), "{bytes} bytes");
     }
-    let mut of_run = facts(alloc, BlockKind::Request, "sip:b@192.0.2.9")?;
-    let found = code_of(&rt, alloc, BYE.as_bytes(), &mut of_run, reason.as_slice())?;
-    assert_eq!(rt; found, 1);
-    reason.push(b'a')?;
-    let mut of_run = facts(alloc, BlockKind::Request, "sip:b@192.0.2.9")?;
-    let found = code_of(&rt, alloc, BYE.as_bytes(), &mut of_run, reason.as_slice())?;
-    assert_eq!(rt; found, -3);
     Ok(())
 }
 
@@ -93,32 +129,8 @@ fn a_response_has_at_most_128_fields(rt: HostRuntime) -> Result<(), Fail> {
     let alloc = rt.alloc();
     for (fields, code) in &[(123, 1), (124, -3)] {
         let b = with_vias(alloc, *fields)?;
-        let mut of_run = facts(alloc, BlockKind::Request, "sip:b@192.0.2.9")?;
-        let found = code_of(&rt, alloc, b.as_slice(), &mut of_run, b"OK")?;
-        assert_eq!(rt; found, *code, "{fields} Via fields");
+        let found = replied(&rt, alloc, b.as_slice(), Before::Nothing, b"OK")?;
+        assert_eq!(rt; found, (*code, *code == 1), "{fields} Via fields");
     }
-    Ok(())
-}
-
-#[test]
-fn an_ack_a_transaction_and_an_outcome_take_no_response(rt: HostRuntime) -> Result<(), Fail> {
-    let alloc = rt.alloc();
-    let ack = request(alloc, "")?;
-    let mut of_run = facts(alloc, BlockKind::Request, "sip:b@192.0.2.9")?;
-    assert_eq!(rt;
-        code_of(&rt, alloc, ack.as_slice(), &mut of_run, b"OK")?,
-        -1
-    );
-    of_run.standing.exists = true;
-    assert_eq!(rt;
-        code_of(&rt, alloc, BYE.as_bytes(), &mut of_run, b"OK")?,
-        -1
-    );
-    of_run.standing.exists = false;
-    of_run.outcome = Outcome::Suspended;
-    assert_eq!(rt;
-        code_of(&rt, alloc, BYE.as_bytes(), &mut of_run, b"OK")?,
-        -1
-    );
     Ok(())
 }

@@ -182,38 +182,70 @@ fn requests_are_routed_by_their_route_fields(rt: HostRuntime) -> Result<(), Fail
     Ok(())
 }
 
-/// How many edits are made before, the Route fields, the code, and how many edits there are then.
-const ROOM: [(usize, &str, i64, usize); 5] = [
-    (63, "Route: <sip:127.0.0.1;lr>\r\n", 1, 64),
-    (64, "Route: <sip:127.0.0.1;lr>\r\n", -2, 64),
-    (64, "Route: <sip:192.0.2.50;lr>\r\n", 1, 64),
+/// How many edits are made before, the Route fields, the code, how many edits there are then, and the target.
+const ROOM: [(usize, &str, i64, usize, &str); 5] = [
+    (
+        63,
+        "Route: <sip:127.0.0.1;lr>\r\n",
+        1,
+        64,
+        "sip:b@192.0.2.9",
+    ),
+    (
+        64,
+        "Route: <sip:127.0.0.1;lr>\r\n",
+        -2,
+        64,
+        "sip:b@192.0.2.9",
+    ),
+    (
+        64,
+        "Route: <sip:192.0.2.50;lr>\r\n",
+        1,
+        64,
+        "sip:b@192.0.2.9",
+    ),
     // a strict router after us: the field is cut, and another goes back
-    (62, "Route: <sip:127.0.0.1;lr>, <sip:192.0.2.50>\r\n", 1, 64),
+    (
+        62,
+        "Route: <sip:127.0.0.1;lr>, <sip:192.0.2.50>\r\n",
+        1,
+        64,
+        "sip:192.0.2.50",
+    ),
     (
         63,
         "Route: <sip:127.0.0.1;lr>, <sip:192.0.2.50>\r\n",
         -2,
         63,
+        "sip:b@192.0.2.9",
     ),
 ];
 
+/// The codes of two calls, and the facts then, where so many edits are made before.
+fn routed_twice(
+    rt: &impl Abort,
+    alloc: Global,
+    made: usize,
+    routes: &str,
+) -> Result<(i64, i64, Facts), AllocError> {
+    let text = request(alloc, routes)?;
+    let b = text.as_slice();
+    let m = message(rt, b);
+    let (settings, parameters) = (settings(alloc), parameters(alloc)?);
+    let mut of_run = facts_with_edits(rt, alloc, "sip:b@192.0.2.9", made)?;
+    let first = loose_route(alloc, b, &m, &mut of_run, &settings, &parameters)?;
+    let second = loose_route(alloc, b, &m, &mut of_run, &settings, &parameters)?;
+    Ok((first, second, of_run))
+}
+
 #[test]
 fn a_request_whose_edits_do_not_fit_is_not_routed(rt: HostRuntime) -> Result<(), Fail> {
-    let alloc = rt.alloc();
-    let (settings, parameters) = (settings(alloc), parameters(alloc)?);
-    for (made, routes, code, after) in &ROOM {
-        let b = request(alloc, routes)?;
-        let m = message(&rt, b.as_slice());
-        let mut of_run = facts_with_edits(&rt, alloc, "sip:b@192.0.2.9", *made)?;
-        for _ in 0..2 {
-            let found = loose_route(alloc, b.as_slice(), &m, &mut of_run, &settings, &parameters)?;
-            assert_eq!(rt; found, *code, "{made} edits, {routes}");
-            assert_eq!(rt; of_run.edits.len(), *after, "{made} edits, {routes}");
-        }
-        if *code == -2 {
-            assert_eq!(rt; of_run.uri.bytes(), b"sip:b@192.0.2.9".as_slice());
-            assert!(rt; of_run.destination.is_none());
-        }
+    for (made, routes, code, after, to) in &ROOM {
+        let (first, second, of_run) = routed_twice(&rt, rt.alloc(), *made, routes)?;
+        assert_eq!(rt; (first, second), (*code, *code), "{made} edits, {routes}");
+        assert_eq!(rt; of_run.edits.len(), *after, "{made} edits, {routes}");
+        assert_eq!(rt; of_run.uri.bytes(), to.as_bytes(), "{made} edits, {routes}");
     }
     Ok(())
 }
