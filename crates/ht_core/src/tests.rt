@@ -429,7 +429,7 @@ fn play_both(
         let op = generated(state);
         now = now.wrapping_add(STEPS[(drawn(state) % 16) as usize]);
         let reply = table.apply(alloc, operation(alloc, op)?, &patterns, now)?;
-        let wanted = plain.apply(alloc, operation(alloc, op)?, &patterns, now)?;
+        let wanted = plain.apply(alloc, &operation(alloc, op)?, &patterns, now)?;
         assert!(rt;
             is_same(&reply, &wanted),
             "call {call} at {now} {op:?}: {reply:?}, not {wanted:?}"

@@ -26,7 +26,7 @@ impl Plain {
     pub fn apply(
         &mut self,
         alloc: Global,
-        op: TabOp,
+        op: &TabOp,
         patterns: &Patterns,
         now: u64,
     ) -> Result<TabReply, NoMemory> {
@@ -36,17 +36,13 @@ impl Plain {
         match op {
             TabOp::Get(key) => self.read(alloc, key.bytes()),
             TabOp::Set(key, value) => self.set(alloc, key.bytes(), value),
-            TabOp::Remove(key) => self.set(alloc, key.bytes(), Val::Null),
+            TabOp::Remove(key) => Ok(self.remove(key.bytes())),
             TabOp::Inc(key) => self.count(alloc, key.bytes(), 1),
             TabOp::Dec(key) => self.count(alloc, key.bytes(), -1),
             TabOp::Left(key) => Ok(self.left(key.bytes())),
-            TabOp::Limit(key, seconds) => Ok(self.limit(key.bytes(), seconds)),
-            TabOp::RemoveMatching(number) => self.remove_matching(alloc, number, patterns),
-            TabOp::Reset => {
-                let count = self.items.len();
-                self.items.clear();
-                Ok(TabReply::Count(count as u64))
-            }
+            TabOp::Limit(key, seconds) => Ok(self.limit(key.bytes(), *seconds)),
+            TabOp::RemoveMatching(number) => self.remove_matching(alloc, *number, patterns),
+            TabOp::Reset => Ok(self.reset()),
         }
     }
 
@@ -61,16 +57,29 @@ impl Plain {
         }
     }
 
-    fn set(&mut self, alloc: Global, key: &[u8], value: Val) -> Result<TabReply, NoMemory> {
+    fn set(&mut self, alloc: Global, key: &[u8], value: &Val) -> Result<TabReply, NoMemory> {
+        if let Val::Null = value {
+            return Ok(self.remove(key));
+        }
         if key.len() > 512 {
             return Ok(TabReply::TooLong);
         }
-        if let Val::Null = value {
-            self.items.remove(key);
-            return Ok(TabReply::Done);
-        }
-        self.assign(alloc, key, value)?;
+        self.assign(alloc, key, value.copy(alloc)?)?;
         Ok(TabReply::Done)
+    }
+
+    fn remove(&mut self, key: &[u8]) -> TabReply {
+        if key.len() > 512 {
+            return TabReply::TooLong;
+        }
+        self.items.remove(key);
+        TabReply::Done
+    }
+
+    fn reset(&mut self) -> TabReply {
+        let count = self.items.len();
+        self.items.clear();
+        TabReply::Count(count as u64)
     }
 
     fn assign(&mut self, alloc: Global, key: &[u8], value: Val) -> Result<(), NoMemory> {
