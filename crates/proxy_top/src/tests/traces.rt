@@ -183,9 +183,18 @@ fn whole_scripts_print_their_trace(rt: HostRuntime) -> Result<(), Fail> {
 /// A malformed request with a Via field of this many bytes behind `p=`, and what is printed of it.
 fn with_long_via(alloc: Global, bytes: usize) -> Result<(String, String), AllocError> {
     let long = "x".repeat(alloc, bytes)?;
-    let via = format!(in alloc; "|Via: SIP/2.0/UDP 192.0.2.1;branch=z9hG4bKx;p={}\n", long.as_str())?;
-    let scenario = format!(in alloc; "in 1 192.0.2.1:5060\n|OPTIONS sip:a SIP/2.0\n{}|\nend 1\n", via.as_str())?;
-    let response = format!(in alloc; "out 1 192.0.2.1:5060\n|SIP/2.0 400 Bad Request\n{}|Content-Length: 0\n|\nend 1 live 0\n", via.as_str())?;
+    let via = format!(in alloc;
+        "|Via: SIP/2.0/UDP 192.0.2.1;branch=z9hG4bKx;p={}\n",
+        long.as_str()
+    )?;
+    let scenario = format!(in alloc;
+        "in 1 192.0.2.1:5060\n|OPTIONS sip:a SIP/2.0\n{}|\nend 1\n",
+        via.as_str()
+    )?;
+    let response = format!(in alloc;
+        "out 1 192.0.2.1:5060\n|SIP/2.0 400 Bad Request\n{}|Content-Length: 0\n|\nend 1 live 0\n",
+        via.as_str()
+    )?;
     Ok((scenario, response))
 }
 
@@ -194,10 +203,22 @@ fn a_response_has_at_most_8192_bytes(rt: HostRuntime) -> Result<(), Fail> {
     let alloc = rt.alloc();
     // The line Via has 8,146 bytes, and the response 46 besides.
     let (scenario, response) = with_long_via(alloc, 8_099)?;
-    let case = sim_case("8,192 bytes", SILENT, scenario.as_str(), 0, response.as_str());
+    let case = sim_case(
+        "8,192 bytes",
+        SILENT,
+        scenario.as_str(),
+        0,
+        response.as_str(),
+    );
     assert!(rt; holds(alloc, &case)?, "{}", case.shows);
     let (scenario, _) = with_long_via(alloc, 8_100)?;
-    let case = sim_case("8,193 bytes", SILENT, scenario.as_str(), 0, "drop 1 too_long\nend 1 live 0\n");
+    let case = sim_case(
+        "8,193 bytes",
+        SILENT,
+        scenario.as_str(),
+        0,
+        "drop 1 too_long\nend 1 live 0\n",
+    );
     assert!(rt; holds(alloc, &case)?, "{}", case.shows);
     Ok(())
 }

@@ -10,7 +10,7 @@ use Rattle.proxy_top.proofs.top.sim.Goals as goal
 pub returns-in-Err-clause-ended : goal.returns-in-Err-clause-ended
 returns-in-Err-clause-ended g c =
     subst (λ r. IfErr r (λ e. (words : List (List ℕ)) → NamesScript words c.args.file.now
-      → IsEnding words (g.F.Files.folder c.args.files.now) (g.F.Files.faults c.args.files.now) (g.F.Files.faults c.read_script.new.files) e))
+    → IsEnding words (g.F.Files.folder c.args.files.now) (g.F.Files.faults c.args.files.now) (g.F.Files.faults c.read_script.new.files) e))
     c.in-Err.is c.in_ok-script.ensures.ended (sim_words c.args.file.now c.args.scenario.now) (sim_names c.args.file.now c.args.scenario.now)
 
 pub returns-in-Ok-read_scenario-clause-ended : goal.returns-in-Ok-read_scenario-clause-ended
