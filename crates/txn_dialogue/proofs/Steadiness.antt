@@ -38,7 +38,7 @@ use Rattle.txn_dialogue.specs.declared.happening.SlotTimer.{SlotTimer}
 use Rattle.txn_dialogue.specs.declared.happening.SlotTimer.TheVariants as slot_timer
 use Rattle.txn_dialogue.specs.Slots.{Proxy, TxnBranch, TxnState, Live, Seen, SeenVacant, SeenLive, generation_of, reading}
 use Rattle.txn_dialogue.specs.Timers.{timer_at}
-use Rattle.txn_dialogue.specs.Sends.{Sent, Work, sent_if, responded, server_step, cancel_ripe, cancelling_pending, settled, has_final, is_proceeding, cancelling, all_cancelling, client_step, at_branch}
+use Rattle.txn_dialogue.specs.Sends.{Sent, Work, kept_of, sent_if, responded, server_step, cancel_ripe, cancelling_pending, settled, has_final, is_proceeding, cancelling, all_cancelling, client_step, at_branch}
 use Rattle.txn_dialogue.specs.Ending.{StepCourse, Done, Aborted, leaves, gives, sending, after_send, closing, close_of, finish, is_over}
 use Rattle.txn_dialogue.specs.Rounds.{Best, made, best_response, best_sent_by, failed_by, over, round_failed, counted}
 use Rattle.txn_dialogue.specs.Replies.{BranchReply, class_event, forwarded_now, forwarding_at, timed, to_cancel_client, stray, response_method, kept_for, kept_response, noted, forwarded_by, listed, replying, came_up, to_client, to_branch, to_cancel_of, reply_by_code, reply_read, counts, counted_by, over_client}
@@ -187,7 +187,7 @@ fired_steady p (Some (slot_timer.Branch n t)) w e = at_branch_steady p n t (slic
 
 forwarded_steady : (p : Proxy) (o : Forwarding) (n code : ℕ) (text : List ℕ) (w : Work) → failure_to_run w.state ≡ None → Steady (forwarded_by p o n code text w)
 forwarded_steady p Now n code text w e = finish_steady Handled (cancel_ripe n (forwarded_now code text w))
-forwarded_steady p Kept n code text w e = counted_steady p (kept_response n code (Some text) w) (kept_armed n code (Some text) w ∙ e)
+forwarded_steady p Kept n code text w e = counted_steady p (kept_response n code (Some (kept_of text)) w) (kept_armed n code (Some (kept_of text)) w ∙ e)
 forwarded_steady p Nothing n code text w e = finish_steady Handled (cancel_ripe n w)
 
 replying_steady : (p : Proxy) (r : BranchReply) (script armed : Option ℕ) (edits : List Edit) (w : Work) → script ≡ None → armed ≡ None → failure_to_run w.state ≡ None

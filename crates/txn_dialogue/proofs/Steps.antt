@@ -44,7 +44,7 @@ use Rattle.txn_dialogue.specs.declared.happening.BranchTimer.TheVariants as bran
 use Rattle.txn_dialogue.specs.declared.happening.SlotTimer.{SlotTimer}
 use Rattle.txn_dialogue.specs.declared.happening.SlotTimer.TheVariants as slot_timer
 use Rattle.txn_dialogue.specs.Slots.{Proxy, Origin, TxnBranch, TxnState, Seen, SeenVacant, SeenLive, reading}
-use Rattle.txn_dialogue.specs.Sends.{Sent, Work, sent_if, responded, all_responded, server_step, client_step, cancel_ripe, cancelling_pending, settled, has_final, is_proceeding, at_branch, and_sent, back_to, made_text}
+use Rattle.txn_dialogue.specs.Sends.{Sent, Work, kept_of, sent_if, responded, all_responded, server_step, client_step, cancel_ripe, cancelling_pending, settled, has_final, is_proceeding, at_branch, and_sent, back_to, made_text}
 use Rattle.txn_dialogue.specs.Ending.{StepEnd, StepCourse, Close, end_of, due_of, leaves, gives, after_send, sending, closing, close_of, finish, leave_off, is_over, spare, slot_of}
 use Rattle.txn_dialogue.specs.Memory.{new_label, short_by, short, short_outside, waiting}
 use Rattle.txn_dialogue.specs.Runs.{around_of, facts_at, request_facts, beginning, takes, takes_avps, ended, ran, After}
@@ -312,7 +312,7 @@ module _ (o : Origin) (start : TxnState) where
   forwarded_fine : (n : ℕ) (p : Proxy) (f : Forwarding) (b code : ℕ) (text : List ℕ) (w : Work) → Sound o start n w → Fine (forwarded_by p f b code text w) n
   forwarded_fine n p Now b code text w s =
       finish_fine n Handled (cancel_ripe b (forwarded_now code text w)) (ripe_sound o start n b (forwarded_now code text w) (forwarded_sound o start n code text w s))
-  forwarded_fine n p KeptBack b code text w s = counted_fine n p (kept_response b code (Some text) w) (kept_sound o start n b code (Some text) w s)
+  forwarded_fine n p KeptBack b code text w s = counted_fine n p (kept_response b code (Some (kept_of text)) w) (kept_sound o start n b code (Some (kept_of text)) w s)
   forwarded_fine n p Nothing b code text w s = finish_fine n Handled (cancel_ripe b w) (ripe_sound o start n b w s)
 
   passed_fine : (n : ℕ) (p : Proxy) (r : BranchReply) (edits : List Edit) (w : Work) → Sound o start n w → Fine (passed_up p r edits w) n

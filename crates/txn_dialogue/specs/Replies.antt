@@ -23,7 +23,7 @@ use Rattle.host_meaning.specs.Transactions.{is_invite, status_of}
 use Rattle.txn_dialogue.specs.declared.mark.Mark.TheVariants.{Handled, Dropped}
 use Rattle.txn_dialogue.specs.declared.mark.Cause.TheVariants as cause
 use Rattle.txn_dialogue.specs.Slots.{Proxy, TxnBranch, TxnState, reading}
-use Rattle.txn_dialogue.specs.Sends.{Work, has_final, at_branch, client_step, responding, cancel_ripe, cancelling_pending}
+use Rattle.txn_dialogue.specs.Sends.{Work, has_final, kept_of, at_branch, client_step, responding, cancel_ripe, cancelling_pending}
 use Rattle.txn_dialogue.specs.Ending.{StepCourse, finish}
 use Rattle.txn_dialogue.specs.Runs.{facts_at, takes_avps, ran}
 use Rattle.txn_dialogue.specs.Rounds.{is_drop, is_success, counted}
@@ -64,7 +64,7 @@ forwarded_now code text w = if is_success code then cancelling_pending (respondi
 -- What becomes of a response, by the context as it was before it: it goes on at once, it is kept, or nothing
 abbrev pub forwarded_by : Proxy → Forwarding → ℕ → ℕ → List ℕ → Work → StepCourse
 forwarded_by p Now n code text w = finish Handled (cancel_ripe n (forwarded_now code text w))
-forwarded_by p Kept n code text w = counted p (kept_response n code (Some text) w)
+forwarded_by p Kept n code text w = counted p (kept_response n code (Some (kept_of text)) w)
 forwarded_by p Nothing n code text w = finish Handled (cancel_ripe n w)
 
 abbrev pub forwarding_at : TxnState → ℕ → ℕ → Forwarding

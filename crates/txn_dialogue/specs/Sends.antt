@@ -73,9 +73,13 @@ is_final_state server_state.Terminated = true
 abbrev pub has_final : TxnState → Bool
 has_final s = is_final_state s.server.state
 
+-- What is kept of a response: one that doesn't read is never sent, so nothing of its text is kept.
+abbrev pub kept_of : List ℕ → List ℕ
+kept_of text = if is_readable text then text else []
+
 -- the response that is repeated is the last one up to the first final one
 abbrev pub last_of : Bool → Bool → List ℕ → Option (List ℕ) → Option (List ℕ)
-last_of true false text last = Some text
+last_of true false text last = Some (kept_of text)
 last_of true true text last = last
 last_of false answered text last = last
 

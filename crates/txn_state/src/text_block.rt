@@ -1,0 +1,43 @@
+//! A text in a block.
+ghost use Rattle.std.specs.Prelude.{◌≡◌, ◌≤◌, [], length};
+ghost use Rattle.txn_state.specs.Texts.{text_in};
+
+use buf_pool::{BLOCK_SIZE, Block};
+
+/// A block of the pool and the text in it, which may be empty.
+#[derive(Drop)]
+pub struct TextBlock {
+    block: Block,
+    /// How many bytes of the block are the text.
+    len: usize,
+    ghost fits: { len ≤ 8192 },
+}
+
+impl TextBlock {
+    /// This block, with no text in it.
+    pub fn new(block: Block) -> TextBlock
+        ensures { text_in result ≡ [] }
+    {
+        TextBlock { block, len: 0 }
+    }
+
+    pub fn text(&self) -> &[u8]
+        ensures value { result.now ≡ text_in self.now }
+        ensures fits { length result.now ≤ 8192 }
+    {
+        &self.block.bytes()[..self.len]
+    }
+
+    /// Puts another text into the block.
+    pub fn write(&mut self, text: &[u8])
+        requires { length text.now ≤ 8192 }
+        ensures { text_in self.new ≡ text.now }
+    {
+        self.block.bytes_mut()[..text.len()].copy_from_slice(text);
+        self.len = text.len();
+    }
+
+    pub fn into_block(self) -> Block {
+        self.block
+    }
+}
