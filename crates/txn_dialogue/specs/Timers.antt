@@ -4,16 +4,13 @@ use Rattle.txn_client.specs.declared.machine.Client.{Client}
 use Rattle.txn_client.specs.declared.machine.ClientTimer.TheVariants as client_timer
 use Rattle.txn_client.specs.declared.machine.ClientTimer.{ClientTimer}
 use Rattle.txn_server.specs.declared.machine.ServerTimer.TheVariants as server_timer
+use Rattle.txn_dialogue.specs.declared.happening.ArmedTimer.{ArmedTimer}
 use Rattle.txn_dialogue.specs.declared.happening.BranchTimer.TheVariants as branch_timer
 use Rattle.txn_dialogue.specs.declared.happening.SlotTimer.{SlotTimer}
 use Rattle.txn_dialogue.specs.declared.happening.SlotTimer.TheVariants as slot_timer
 use Rattle.txn_dialogue.specs.Slots.{TxnBranch, TxnState}
 
--- a timer that is armed, and when it is due
-pub record ArmedTimer : Type 0 where
-  pub timer : SlotTimer
-  pub due : ℕ
-
+-- a timer that is armed
 abbrev pub armed : SlotTimer → Option ℕ → List ArmedTimer
 armed timer None = []
 armed timer (Some due) = record { timer = timer; due = due } ∷ []

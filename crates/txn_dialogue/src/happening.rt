@@ -49,3 +49,10 @@ pub enum BranchTimer {
     /// A timer of the client transaction of its CANCEL.
     Cancel(ClientTimer),
 }
+
+/// A timer that is armed, and when it is due, in milliseconds.
+#[derive(Clone, Copy, Debug, PartialEq, Eq)]
+pub struct ArmedTimer {
+    pub timer: SlotTimer,
+    pub due: u64,
+}

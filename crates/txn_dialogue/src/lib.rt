@@ -15,5 +15,5 @@ pub mod laws;
 mod mark;
 
 pub use entry::{Entry, IndexHeard, LooseEntry, Occasion};
-pub use happening::{BranchTimer, Happening, SlotTimer};
+pub use happening::{ArmedTimer, BranchTimer, Happening, SlotTimer};
 pub use mark::{Cause, Mark};

@@ -1,5 +1,5 @@
 -- What the data of a transaction stand for.
-use Rattle.std.specs.Prelude.{◌≡◌, ℕ, ◌+◌, ◌*◌, ◌≤◌, Bool, true, false, List, length, map, Option, Some, None, is_some, unwrap_or}
+use Rattle.std.specs.Prelude.{◌≡◌, ℕ, Bool, true, false, List, length, map, Option, Some, None, is_some, unwrap_or}
 use Rattle.std.specs.List.{AllByRecursion}
 use Rattle.fork_core.specs.Responses.{History}
 use Rattle.fork_core.specs.Histories.{HasHistory}
@@ -34,6 +34,9 @@ branch_shown request b = record {
   quit_due = b.state.quit_due;
 }
 
+abbrev pub branches_shown : Received → List Branch → List TxnBranch
+branches_shown request branches = map (branch_shown request) branches
+
 abbrev pub origin_shown : Received → Txn → Origin
 origin_shown request t = record { generation = t.generation; request = request; source = t.source }
 
@@ -42,7 +45,7 @@ state_shown request h t = record {
   edits = t.script.edits;
   uri = t.script.uri;
   destination = t.script.destination;
-  targets = t.script.targets.items;
+  targets = t.script.targets;
   avps = t.script.avps;
   armed = t.script.armed;
   final_timers = t.script.final_timers;
@@ -52,7 +55,7 @@ state_shown request h t = record {
   server = t.progress.server;
   last = text_if t.progress.has_response t.response;
   history = h;
-  branches = map (branch_shown request) t.branches.items;
+  branches = branches_shown request t.branches.items;
   removed = t.progress.removed;
   suspension = t.progress.suspension;
   suspension_due = t.progress.suspension_due;

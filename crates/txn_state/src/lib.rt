@@ -11,11 +11,11 @@
 #![tactic(auto)]
 
 mod branch;
+mod ending;
 mod text_block;
 mod timers;
 mod txn;
 
 pub use branch::{Branch, BranchState};
 pub use text_block::TextBlock;
-pub use timers::ArmedTimer;
 pub use txn::{Progress, ScriptState, Txn};

@@ -1,6 +1,5 @@
 //! A text in a block.
-ghost use Rattle.std.specs.Prelude.{◌≡◌, ◌≤◌, [], length};
-ghost use Rattle.txn_state.specs.Texts.{text_in};
+ghost use Rattle.std.specs.Prelude.{◌≤◌, ◌≡◌, take, length};
 
 use buf_pool::{BLOCK_SIZE, Block};
 
@@ -14,6 +13,9 @@ pub struct TextBlock {
 }
 
 impl TextBlock {
+    ghost use Rattle.std.specs.Prelude.{◌≡◌, [], length};
+    ghost use Rattle.txn_state.specs.Texts.{text_in};
+
     /// This block, with no text in it.
     pub fn new(block: Block) -> TextBlock
         ensures { text_in result ≡ [] }
@@ -33,11 +35,20 @@ impl TextBlock {
         requires { length text.now ≤ 8192 }
         ensures { text_in self.new ≡ text.now }
     {
-        self.block.bytes_mut()[..text.len()].copy_from_slice(text);
+        put(self.block.bytes_mut(), text);
         self.len = text.len();
     }
 
     pub fn into_block(self) -> Block {
         self.block
     }
+}
+
+/// Puts the text at the beginning of the bytes.
+fn put(bytes: &mut [u8], text: &[u8])
+    requires { length text.now ≤ length bytes.old }
+    ensures text { take (length text.now) bytes.new ≡ text.now }
+    ensures len { length bytes.new ≡ length bytes.old }
+{
+    bytes[..text.len()].copy_from_slice(text);
 }

@@ -1,5 +1,5 @@
 //! A transaction.
-ghost use Rattle.std.specs.Prelude.{◌≡◌, ◌≤◌, vec_capacity};
+ghost use Rattle.std.specs.Prelude.{◌≤◌, vec_len};
 
 use crate::branch::Branch;
 use crate::text_block::TextBlock;
@@ -26,7 +26,7 @@ pub struct Txn {
     pub context: Context,
     /// In order of number; twelve at most.
     pub branches: Vec<Branch>,
-    ghost room: { 12 ≤ vec_capacity branches },
+    ghost few: { vec_len branches ≤ 12 },
 }
 
 /// The script's part of a transaction, which its runs hand on from one to the next.
