@@ -19,3 +19,6 @@ mod txn;
 pub use branch::{Branch, BranchState};
 pub use text_block::TextBlock;
 pub use txn::{Progress, ScriptState, Txn};
+
+#[cfg(test)]
+mod tests;
