@@ -7,12 +7,12 @@
 //! What a slot's value means is for the crate above to say, by `SlotValue`.
 #![tactic(auto)]
 
+mod hashed;
 mod index;
 mod index_cell;
 pub mod laws;
 mod pool_cell;
 mod record;
-mod scan;
 mod slot_cell;
 mod wheel_cell;
 
