@@ -43,7 +43,7 @@ pub(crate) fn holder(
 ) -> Option<(u32, u64)>
     requires list { list < lists.now.lists }
     requires slots { length lists.now.places ≡ length places.now }
-    requires listed { (slot generation : ℕ) → HoldsKey places.now slot generation (shown_key key.entry) → IsIn lists.now.places slot list }
+    requires listed { (slot generation : ℕ) → HoldsKey places.now slot generation (shown_key key) → IsIn lists.now.places slot list }
     ensures held { IfSome result (λ at. HoldsKey places.now at.0 at.1 (shown_key key.entry)) }
     ensures held_nowhere { IfNone result (IsHeldNowhere places.now (shown_key key.entry)) }
 {

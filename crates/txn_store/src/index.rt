@@ -159,11 +159,9 @@ impl Index {
         ensures once { EachKeyIsOnce self.new }
         ensures step { IndexStep self.old (recorded.Free slot) self.new }
     {
-        let generation = self.places[slot as usize].generation.saturating_add(1);
-        self.places[slot as usize] = IndexPlace {
-            generation,
-            key: None,
-        };
+        let place = &mut self.places[slot as usize];
+        place.generation = place.generation.saturating_add(1);
+        place.key = None;
         self.lists.take_out(slot);
         self.free.add(slot);
     }
