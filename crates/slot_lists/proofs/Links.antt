@@ -170,62 +170,62 @@ module _ (p f n : List (Option ℕ)) (L : AreLists p f n) (s k : ℕ) (k_lt : k 
         let apart : s ≢ b = λ e. (let l = below.1 in omega arith) in
         let len = length-set n s (get_or n b None) in let sl = s_lt in
         record {
-      few = let l = L.few in let m = length-set p s (Some k) in omega arith;
-      few_lists = L.few_lists;
-      listed = listed;
-      nexts = length-set (set n s (get_or n b None)) b (Some s) ∙ (len ∙ (ns ∙ sym (length-set p s (Some k))));
-      firsts = λ j l. ⊎_elim
-          (λ e. moved_first (set p s (Some k)) f j k (get_or f k None) e refl (in_ahead p (set p s (Some k)) s k (same_but p s (Some k)) was_none is_k in_k b 0 (get_or f k None) below.0 (omega arith) below.1 (L.firsts k k_lt)))
-          (λ m. in_other p (set p s (Some k)) s k (same_but p s (Some k)) was_none is_k in_k j 0 (get_or f j None) m (L.firsts j l))
-          (cases_eq j k);
-      links = λ q j i. ⊎_elim
-          (λ e. moved (set p s (Some k)) (set (set n s (get_or n b None)) b (Some s)) q s j k (get_or n b None) e (is_k j (subst (λ (x : ℕ). IsIn (set p s (Some k)) x j) e i))
-          (get_or-set_other (set n s (get_or n b None)) b s (Some s) None apart ∙ get_or-set_same n s (get_or n b None) None (omega arith))
-          (of_new p (set p s (Some k)) s k (same_but p s (Some k)) was_none is_k in_k (b + 1) (get_or n b None) nb (L.links b k below.0)))
-          (λ m. let o = old_in q j m i in ⊎_elim
-          (λ e. moved (set p s (Some k)) (set (set n s (get_or n b None)) b (Some s)) q b j k (Some s) e (one_list p b j k (subst (λ (x : ℕ). IsIn p x j) e o) below.0)
-          (get_or-set_same (set n s (get_or n b None)) b (Some s) None (omega arith))
-          (to_new p (set p s (Some k)) s k (same_but p s (Some k)) was_none is_k in_k (b + 1) nb))
-          (λ d. moved (set p s (Some k)) (set (set n s (get_or n b None)) b (Some s)) q q j j (get_or n q None) refl refl
-          (get_or-set_other (set n s (get_or n b None)) b q (Some s) None d ∙ get_or-set_other n s q (get_or n b None) None m)
-          (⊎_elim
-          (λ e. subst (λ (x : ℕ). IsNextIn (set p s (Some k)) x (q + 1) (get_or n q None)) (sym e) (⊎_elim
-          (λ l. let t = below.2 q (subst (λ (x : ℕ). IsIn p q x) e o) l in in_ahead p (set p s (Some k)) s k (same_but p s (Some k)) was_none is_k in_k b (q + 1) (get_or n q None) below.0 (omega arith) below.1 (L.links q k (subst (λ (x : ℕ). IsIn p q x) e o)))
-          (λ l. in_past p (set p s (Some k)) s k (same_but p s (Some k)) was_none is_k in_k (q + 1) (get_or n q None) (omega arith) (L.links q k (subst (λ (x : ℕ). IsIn p q x) e o)))
-          (cases_lt q s)))
-          (λ e. in_other p (set p s (Some k)) s k (same_but p s (Some k)) was_none is_k in_k j (q + 1) (get_or n q None) e (L.links q j o))
-          (cases_eq j k)))
-          (cases_eq q b))
-          (cases_eq q s);
-    }
+          few = let l = L.few in let m = length-set p s (Some k) in omega arith;
+          few_lists = L.few_lists;
+          listed = listed;
+          nexts = length-set (set n s (get_or n b None)) b (Some s) ∙ (len ∙ (ns ∙ sym (length-set p s (Some k))));
+          firsts = λ j l. ⊎_elim
+              (λ e. moved_first (set p s (Some k)) f j k (get_or f k None) e refl (in_ahead p (set p s (Some k)) s k (same_but p s (Some k)) was_none is_k in_k b 0 (get_or f k None) below.0 (omega arith) below.1 (L.firsts k k_lt)))
+              (λ m. in_other p (set p s (Some k)) s k (same_but p s (Some k)) was_none is_k in_k j 0 (get_or f j None) m (L.firsts j l))
+              (cases_eq j k);
+          links = λ q j i. ⊎_elim
+              (λ e. moved (set p s (Some k)) (set (set n s (get_or n b None)) b (Some s)) q s j k (get_or n b None) e (is_k j (subst (λ (x : ℕ). IsIn (set p s (Some k)) x j) e i))
+              (get_or-set_other (set n s (get_or n b None)) b s (Some s) None apart ∙ get_or-set_same n s (get_or n b None) None (omega arith))
+              (of_new p (set p s (Some k)) s k (same_but p s (Some k)) was_none is_k in_k (b + 1) (get_or n b None) nb (L.links b k below.0)))
+              (λ m. let o = old_in q j m i in ⊎_elim
+              (λ e. moved (set p s (Some k)) (set (set n s (get_or n b None)) b (Some s)) q b j k (Some s) e (one_list p b j k (subst (λ (x : ℕ). IsIn p x j) e o) below.0)
+              (get_or-set_same (set n s (get_or n b None)) b (Some s) None (omega arith))
+              (to_new p (set p s (Some k)) s k (same_but p s (Some k)) was_none is_k in_k (b + 1) nb))
+              (λ d. moved (set p s (Some k)) (set (set n s (get_or n b None)) b (Some s)) q q j j (get_or n q None) refl refl
+              (get_or-set_other (set n s (get_or n b None)) b q (Some s) None d ∙ get_or-set_other n s q (get_or n b None) None m)
+              (⊎_elim
+              (λ e. subst (λ (x : ℕ). IsNextIn (set p s (Some k)) x (q + 1) (get_or n q None)) (sym e) (⊎_elim
+              (λ l. let t = below.2 q (subst (λ (x : ℕ). IsIn p q x) e o) l in in_ahead p (set p s (Some k)) s k (same_but p s (Some k)) was_none is_k in_k b (q + 1) (get_or n q None) below.0 (omega arith) below.1 (L.links q k (subst (λ (x : ℕ). IsIn p q x) e o)))
+              (λ l. in_past p (set p s (Some k)) s k (same_but p s (Some k)) was_none is_k in_k (q + 1) (get_or n q None) (omega arith) (L.links q k (subst (λ (x : ℕ). IsIn p q x) e o)))
+              (cases_lt q s)))
+              (λ e. in_other p (set p s (Some k)) s k (same_but p s (Some k)) was_none is_k in_k j (q + 1) (get_or n q None) e (L.links q j o))
+              (cases_eq j k)))
+              (cases_eq q b))
+              (cases_eq q s);
+        }
 
     pub put_first : IsLastBelow p k s None → AreLists (set p s (Some k)) (set f k (Some s)) (set n s (get_or f k None))
     put_first below =
         let nb = none_between p k s None below in let ns = L.nexts in let sl = s_lt in
         record {
-      few = let l = L.few in let m = length-set p s (Some k) in omega arith;
-      few_lists = let l = L.few_lists in let m = length-set f k (Some s) in omega arith;
-      listed = λ q j i. let l = listed q j i in let m = length-set f k (Some s) in omega arith;
-      nexts = length-set n s (get_or f k None) ∙ (ns ∙ sym (length-set p s (Some k)));
-      firsts = λ j l. ⊎_elim
-          (λ e. moved_first (set p s (Some k)) (set f k (Some s)) j k (Some s) e (get_or-set_same f k (Some s) None k_lt) (to_new p (set p s (Some k)) s k (same_but p s (Some k)) was_none is_k in_k 0 nb))
-          (λ m. moved_first (set p s (Some k)) (set f k (Some s)) j j (get_or f j None) refl (get_or-set_other f k j (Some s) None m)
-          (in_other p (set p s (Some k)) s k (same_but p s (Some k)) was_none is_k in_k j 0 (get_or f j None) m (L.firsts j (let z = length-set f k (Some s) in omega arith))))
-          (cases_eq j k);
-      links = λ q j i. ⊎_elim
-          (λ e. moved (set p s (Some k)) (set n s (get_or f k None)) q s j k (get_or f k None) e (is_k j (subst (λ (x : ℕ). IsIn (set p s (Some k)) x j) e i))
-          (get_or-set_same n s (get_or f k None) None (omega arith))
-          (of_new p (set p s (Some k)) s k (same_but p s (Some k)) was_none is_k in_k 0 (get_or f k None) nb (L.firsts k k_lt)))
-          (λ m. let o = old_in q j m i in
-          moved (set p s (Some k)) (set n s (get_or f k None)) q q j j (get_or n q None) refl refl
-          (get_or-set_other n s q (get_or f k None) None m)
-          (⊎_elim
-          (λ e. subst (λ (x : ℕ). IsNextIn (set p s (Some k)) x (q + 1) (get_or n q None)) (sym e)
-          (let t = below q (subst (λ (x : ℕ). IsIn p q x) e o) in in_past p (set p s (Some k)) s k (same_but p s (Some k)) was_none is_k in_k (q + 1) (get_or n q None) (omega arith) (L.links q k (subst (λ (x : ℕ). IsIn p q x) e o))))
-          (λ e. in_other p (set p s (Some k)) s k (same_but p s (Some k)) was_none is_k in_k j (q + 1) (get_or n q None) e (L.links q j o))
-          (cases_eq j k)))
-          (cases_eq q s);
-    }
+          few = let l = L.few in let m = length-set p s (Some k) in omega arith;
+          few_lists = let l = L.few_lists in let m = length-set f k (Some s) in omega arith;
+          listed = λ q j i. let l = listed q j i in let m = length-set f k (Some s) in omega arith;
+          nexts = length-set n s (get_or f k None) ∙ (ns ∙ sym (length-set p s (Some k)));
+          firsts = λ j l. ⊎_elim
+              (λ e. moved_first (set p s (Some k)) (set f k (Some s)) j k (Some s) e (get_or-set_same f k (Some s) None k_lt) (to_new p (set p s (Some k)) s k (same_but p s (Some k)) was_none is_k in_k 0 nb))
+              (λ m. moved_first (set p s (Some k)) (set f k (Some s)) j j (get_or f j None) refl (get_or-set_other f k j (Some s) None m)
+              (in_other p (set p s (Some k)) s k (same_but p s (Some k)) was_none is_k in_k j 0 (get_or f j None) m (L.firsts j (let z = length-set f k (Some s) in omega arith))))
+              (cases_eq j k);
+          links = λ q j i. ⊎_elim
+              (λ e. moved (set p s (Some k)) (set n s (get_or f k None)) q s j k (get_or f k None) e (is_k j (subst (λ (x : ℕ). IsIn (set p s (Some k)) x j) e i))
+              (get_or-set_same n s (get_or f k None) None (omega arith))
+              (of_new p (set p s (Some k)) s k (same_but p s (Some k)) was_none is_k in_k 0 (get_or f k None) nb (L.firsts k k_lt)))
+              (λ m. let o = old_in q j m i in
+              moved (set p s (Some k)) (set n s (get_or f k None)) q q j j (get_or n q None) refl refl
+              (get_or-set_other n s q (get_or f k None) None m)
+              (⊎_elim
+              (λ e. subst (λ (x : ℕ). IsNextIn (set p s (Some k)) x (q + 1) (get_or n q None)) (sym e)
+              (let t = below q (subst (λ (x : ℕ). IsIn p q x) e o) in in_past p (set p s (Some k)) s k (same_but p s (Some k)) was_none is_k in_k (q + 1) (get_or n q None) (omega arith) (L.links q k (subst (λ (x : ℕ). IsIn p q x) e o))))
+              (λ e. in_other p (set p s (Some k)) s k (same_but p s (Some k)) was_none is_k in_k j (q + 1) (get_or n q None) e (L.links q j o))
+              (cases_eq j k)))
+              (cases_eq q s);
+        }
 
   module _ (here : IsIn p s k) where
     s_in : s < length p
@@ -244,49 +244,49 @@ module _ (p f n : List (Option ℕ)) (L : AreLists p f n) (s k : ℕ) (k_lt : k 
     take_after b below =
         let nb = none_between p k s (Some b) below in let b_lt = slice_get_within p b (Some k) below.0 in let ns = L.nexts in
         record {
-      few = let l = L.few in let m = length-set p s None in omega arith;
-      few_lists = L.few_lists;
-      listed = λ q j i. L.listed q j (apart_in q j i).0;
-      nexts = length-set n b (get_or n s None) ∙ (ns ∙ sym (length-set p s None));
-      firsts = λ j l. ⊎_elim
-          (λ e. moved_first (set p s None) f j k (get_or f k None) e refl (out_ahead p (set p s None) s k (same_but p s None) here one out b 0 (get_or f k None) below.0 (omega arith) below.1 (L.firsts k k_lt)))
-          (λ m. out_other p (set p s None) s k (same_but p s None) here one out j 0 (get_or f j None) m (L.firsts j l))
-          (cases_eq j k);
-      links = λ q j i. let o = (apart_in q j i).0 in ⊎_elim
-          (λ e. moved (set p s None) (set n b (get_or n s None)) q b j k (get_or n s None) e (one_list p b j k (subst (λ (x : ℕ). IsIn p x j) e o) below.0)
-          (get_or-set_same n b (get_or n s None) None (omega arith))
-          (past_it p (set p s None) s k (same_but p s None) here one out (b + 1) (get_or n s None) nb (L.links s k here)))
-          (λ d. moved (set p s None) (set n b (get_or n s None)) q q j j (get_or n q None) refl refl
-          (get_or-set_other n b q (get_or n s None) None d)
-          (⊎_elim
-          (λ e. subst (λ (x : ℕ). IsNextIn (set p s None) x (q + 1) (get_or n q None)) (sym e) (⊎_elim
-          (λ l. let t = below.2 q (subst (λ (x : ℕ). IsIn p q x) e o) l in out_ahead p (set p s None) s k (same_but p s None) here one out b (q + 1) (get_or n q None) below.0 (omega arith) below.1 (L.links q k (subst (λ (x : ℕ). IsIn p q x) e o)))
-          (λ l. out_past p (set p s None) s k (same_but p s None) here one out (q + 1) (get_or n q None) (omega arith) (L.links q k (subst (λ (x : ℕ). IsIn p q x) e o)))
-          (cases_lt q s)))
-          (λ e. out_other p (set p s None) s k (same_but p s None) here one out j (q + 1) (get_or n q None) e (L.links q j o))
-          (cases_eq j k)))
-          (cases_eq q b);
-    }
+          few = let l = L.few in let m = length-set p s None in omega arith;
+          few_lists = L.few_lists;
+          listed = λ q j i. L.listed q j (apart_in q j i).0;
+          nexts = length-set n b (get_or n s None) ∙ (ns ∙ sym (length-set p s None));
+          firsts = λ j l. ⊎_elim
+              (λ e. moved_first (set p s None) f j k (get_or f k None) e refl (out_ahead p (set p s None) s k (same_but p s None) here one out b 0 (get_or f k None) below.0 (omega arith) below.1 (L.firsts k k_lt)))
+              (λ m. out_other p (set p s None) s k (same_but p s None) here one out j 0 (get_or f j None) m (L.firsts j l))
+              (cases_eq j k);
+          links = λ q j i. let o = (apart_in q j i).0 in ⊎_elim
+              (λ e. moved (set p s None) (set n b (get_or n s None)) q b j k (get_or n s None) e (one_list p b j k (subst (λ (x : ℕ). IsIn p x j) e o) below.0)
+              (get_or-set_same n b (get_or n s None) None (omega arith))
+              (past_it p (set p s None) s k (same_but p s None) here one out (b + 1) (get_or n s None) nb (L.links s k here)))
+              (λ d. moved (set p s None) (set n b (get_or n s None)) q q j j (get_or n q None) refl refl
+              (get_or-set_other n b q (get_or n s None) None d)
+              (⊎_elim
+              (λ e. subst (λ (x : ℕ). IsNextIn (set p s None) x (q + 1) (get_or n q None)) (sym e) (⊎_elim
+              (λ l. let t = below.2 q (subst (λ (x : ℕ). IsIn p q x) e o) l in out_ahead p (set p s None) s k (same_but p s None) here one out b (q + 1) (get_or n q None) below.0 (omega arith) below.1 (L.links q k (subst (λ (x : ℕ). IsIn p q x) e o)))
+              (λ l. out_past p (set p s None) s k (same_but p s None) here one out (q + 1) (get_or n q None) (omega arith) (L.links q k (subst (λ (x : ℕ). IsIn p q x) e o)))
+              (cases_lt q s)))
+              (λ e. out_other p (set p s None) s k (same_but p s None) here one out j (q + 1) (get_or n q None) e (L.links q j o))
+              (cases_eq j k)))
+              (cases_eq q b);
+        }
 
     pub take_first : IsLastBelow p k s None → AreLists (set p s None) (set f k (get_or n s None)) n
     take_first below =
         let nb = none_between p k s None below in let ns = L.nexts in
         record {
-      few = let l = L.few in let m = length-set p s None in omega arith;
-      few_lists = let l = L.few_lists in let m = length-set f k (get_or n s None) in omega arith;
-      listed = λ q j i. let l = L.listed q j (apart_in q j i).0 in let m = length-set f k (get_or n s None) in omega arith;
-      nexts = ns ∙ sym (length-set p s None);
-      firsts = λ j l. ⊎_elim
-          (λ e. moved_first (set p s None) (set f k (get_or n s None)) j k (get_or n s None) e (get_or-set_same f k (get_or n s None) None k_lt) (past_it p (set p s None) s k (same_but p s None) here one out 0 (get_or n s None) nb (L.links s k here)))
-          (λ m. moved_first (set p s None) (set f k (get_or n s None)) j j (get_or f j None) refl (get_or-set_other f k j (get_or n s None) None m)
-          (out_other p (set p s None) s k (same_but p s None) here one out j 0 (get_or f j None) m (L.firsts j (let z = length-set f k (get_or n s None) in omega arith))))
-          (cases_eq j k);
-      links = λ q j i. let o = (apart_in q j i).0 in let d = (apart_in q j i).1 in ⊎_elim
-          (λ e. subst (λ (x : ℕ). IsNextIn (set p s None) x (q + 1) (get_or n q None)) (sym e)
-          (let t = below q (subst (λ (x : ℕ). IsIn p q x) e o) in out_past p (set p s None) s k (same_but p s None) here one out (q + 1) (get_or n q None) (omega arith) (L.links q k (subst (λ (x : ℕ). IsIn p q x) e o))))
-          (λ e. out_other p (set p s None) s k (same_but p s None) here one out j (q + 1) (get_or n q None) e (L.links q j o))
-          (cases_eq j k);
-    }
+          few = let l = L.few in let m = length-set p s None in omega arith;
+          few_lists = let l = L.few_lists in let m = length-set f k (get_or n s None) in omega arith;
+          listed = λ q j i. let l = L.listed q j (apart_in q j i).0 in let m = length-set f k (get_or n s None) in omega arith;
+          nexts = ns ∙ sym (length-set p s None);
+          firsts = λ j l. ⊎_elim
+              (λ e. moved_first (set p s None) (set f k (get_or n s None)) j k (get_or n s None) e (get_or-set_same f k (get_or n s None) None k_lt) (past_it p (set p s None) s k (same_but p s None) here one out 0 (get_or n s None) nb (L.links s k here)))
+              (λ m. moved_first (set p s None) (set f k (get_or n s None)) j j (get_or f j None) refl (get_or-set_other f k j (get_or n s None) None m)
+              (out_other p (set p s None) s k (same_but p s None) here one out j 0 (get_or f j None) m (L.firsts j (let z = length-set f k (get_or n s None) in omega arith))))
+              (cases_eq j k);
+          links = λ q j i. let o = (apart_in q j i).0 in let d = (apart_in q j i).1 in ⊎_elim
+              (λ e. subst (λ (x : ℕ). IsNextIn (set p s None) x (q + 1) (get_or n q None)) (sym e)
+              (let t = below q (subst (λ (x : ℕ). IsIn p q x) e o) in out_past p (set p s None) s k (same_but p s None) here one out (q + 1) (get_or n q None) (omega arith) (L.links q k (subst (λ (x : ℕ). IsIn p q x) e o))))
+              (λ e. out_other p (set p s None) s k (same_but p s None) here one out j (q + 1) (get_or n q None) e (L.links q j o))
+              (cases_eq j k);
+        }
 
 -- ---- no slot is in a list
 

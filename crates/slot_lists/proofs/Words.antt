@@ -112,9 +112,9 @@ levels_set lower upper lower' upper' k L el eu sl su = record {
   room = let r = L.room in omega arith;
   told = λ j. (
     (λ h. ⊎_elim
-      (λ e. (k % 64, omega arith, (sl (j * 64 + k % 64)).1 (inl (omega arith))))
-      (λ o. let b = (L.told j).0 o in (b.0, b.1, (sl (j * 64 + b.0)).1 (inr b.2)))
-      ((su j).0 h)),
+        (λ e. (k % 64, omega arith, (sl (j * 64 + k % 64)).1 (inl (omega arith))))
+        (λ o. let b = (L.told j).0 o in (b.0, b.1, (sl (j * 64 + b.0)).1 (inr b.2)))
+        ((su j).0 h)),
     λ b. (su j).1 (⊎_elim (λ e. inl (let l = b.1 in omega arith)) (λ o. inr ((L.told j).1 (b.0, b.1, o))) ((sl (j * 64 + b.0)).0 b.2)),
   );
 }
@@ -126,9 +126,9 @@ levels_clear_some lower upper lower' k L el sl t t_lt h = record {
   room = let r = L.room in omega arith;
   told = λ j. (
     (λ o. ⊎_elim
-      (λ e. (t, t_lt, subst (λ x. Has lower' (x * 64 + t)) (sym e) h))
-      (λ n. let b = (L.told j).0 o in (b.0, b.1, (sl (j * 64 + b.0)).1 ((λ e. n (let l = b.1 in omega arith)), b.2)))
-      (cases_eq j (k / 64))),
+        (λ e. (t, t_lt, subst (λ x. Has lower' (x * 64 + t)) (sym e) h))
+        (λ n. let b = (L.told j).0 o in (b.0, b.1, (sl (j * 64 + b.0)).1 ((λ e. n (let l = b.1 in omega arith)), b.2)))
+        (cases_eq j (k / 64))),
     λ b. (L.told j).1 (b.0, b.1, ((sl (j * 64 + b.0)).0 b.2).1),
   );
 }

@@ -107,9 +107,9 @@ module _ (s : Places) (state : HashState) (lists : Listed) (free : List ℕ) (X 
     room = let m = X.room in let n = length-set s slot (place g None) in omega arith;
     told = λ other. (
       (λ h. ⊎_elim
-        (λ e. (g, subst (λ (x : ℕ). slice_get (set s slot (place g None)) x ≡ Some (place g None)) (sym e) (get_set_same s slot (place g None) l)))
-        (λ n. let f = (X.told other).0 (⊎_elim (λ e. absurd (n e)) (λ o. o) ((has other).0 h)) in (f.0, get_set_other s slot other (place g None) n ∙ f.1))
-        (cases_eq other slot)),
+          (λ e. (g, subst (λ (x : ℕ). slice_get (set s slot (place g None)) x ≡ Some (place g None)) (sym e) (get_set_same s slot (place g None) l)))
+          (λ n. let f = (X.told other).0 (⊎_elim (λ e. absurd (n e)) (λ o. o) ((has other).0 h)) in (f.0, get_set_other s slot other (place g None) n ∙ f.1))
+          (cases_eq other slot)),
       λ f. (has other).1 (⊎_elim (λ p. inl p.0) (λ e. inr ((X.told other).1 (f.0, e))) (at_set s slot other (place g None) (place f.0 None) f.1)),
     );
   }

@@ -1,4 +1,4 @@
-use Rattle.std.proofs.Common.{◌≡◌, ◌≢◌, ◌<◌, ◌^◌, ◌∙◌, ◌*◌, ◌+◌, ℕ, false, eqb, true, get_or, arith, rules, ap, sym, length, eq-eqb}
+use Rattle.std.proofs.Common.{◌≡◌, ◌≢◌, ◌<◌, ◌^◌, ◌∙◌, ◌*◌, ◌+◌, ℕ, false, eqb, get_or, arith, rules, ap, sym, length, eq-eqb}
 use Rattle.std.proofs.lemmas.Bool.{eqb-true, true≢false}
 use Rattle.std.proofs.lemmas.List.{get_or_default}
 use Rattle.slot_lists.proofs.Words.{no_bit, few, has_lowest}

@@ -1,5 +1,5 @@
-use Rattle.std.proofs.Common.{◌<◌, ◌^◌, get_or, arith, ap, sym, ◌∙◌, rules}
-use Rattle.slot_lists.proofs.Words.{has_lowest, least, none_at_all}
+use Rattle.std.proofs.Common.{◌<◌, ◌^◌, get_or, ap, sym, ◌∙◌, rules}
+use Rattle.slot_lists.proofs.Words.{has_lowest, least}
 use Rattle.slot_lists.proofs.bits.Bits.lowest.Goals as goal
 
 pub returns-then-word-ne0-clause-has : goal.returns-then-word-ne0-clause-has

@@ -1,4 +1,4 @@
-use Rattle.std.proofs.Common.{◌≡◌, ◌≢◌, ◌<◌, ◌^◌, ◌∙◌, ◌*◌, ◌+◌, ◌/◌, ℕ, List, get_or, arith, rules, ap, length}
+use Rattle.std.proofs.Common.{◌≡◌, ◌≢◌, ◌<◌, ◌^◌, ◌∙◌, ◌*◌, ◌+◌, ◌/◌, ℕ, List, get_or, arith, rules, length}
 use Rattle.std.proofs.lemmas.List.{get_or_default}
 use Rattle.slot_lists.proofs.Words.{no_bit, has_lowest, is_lowest, within_words}
 use Rattle.slot_lists.specs.Bits.{Has}

@@ -1,5 +1,4 @@
-use Rattle.std.proofs.Common.{arith, ap, length, subst, ◌/◌, ◌<◌}
-use Rattle.slot_lists.specs.Bits.{Has}
+use Rattle.std.proofs.Common.{arith, ap, length, ◌/◌, ◌<◌}
 use Rattle.slot_lists.proofs.Words.{has_set}
 use Rattle.slot_lists.proofs.bits.Bits.set.Goals as goal
 

@@ -1,4 +1,4 @@
-use Rattle.std.proofs.Common.{◌≡◌, ℕ, ◌+◌, ◌*◌, ◌≤◌, List, IfNone, sym, subst}
+use Rattle.std.proofs.Common.{ℕ, ◌+◌, ◌*◌, ◌≤◌, List, IfNone, sym, subst}
 use Rattle.slot_lists.specs.Bits.{Has}
 use Rattle.slot_lists.proofs.Words.{lowest_of_levels, none_of_levels}
 use Rattle.slot_lists.proofs.free.FreeSlots.lowest.Goals as goal

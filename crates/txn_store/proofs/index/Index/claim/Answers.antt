@@ -32,10 +32,13 @@ returns-in_default-lowest-clause-answers c = (
 )
 
 pub returns-in_default-lowest-clause-step : goal.returns-in_default-lowest-clause-step
-returns-in_default-lowest-clause-step c = ((
-  nowhere_in _ _ _ (c.as_slice.ensures.value ∙ c.self.view_is) c.in_default.ensures.held_nowhere,
-  none_free c.self.inside.places.items c.args.self.now c.self.inside.free c.self.view_is (λ slot. (c.self.invariant.told slot).1) c.in_default-lowest.ensures.none,
-), refl)
+returns-in_default-lowest-clause-step c = (
+  (
+    nowhere_in _ _ _ (c.as_slice.ensures.value ∙ c.self.view_is) c.in_default.ensures.held_nowhere,
+    none_free c.self.inside.places.items c.args.self.now c.self.inside.free c.self.view_is (λ slot. (c.self.invariant.told slot).1) c.in_default-lowest.ensures.none,
+  ),
+  refl,
+)
 
 pub overflow_cast-slot : goal.overflow_cast-slot
 overflow_cast-slot c =
@@ -75,8 +78,8 @@ returns-clause-answers c =
     let f = (c.self.invariant.told slot).0 c.in-Some-lowest.ensures.has in (
       nowhere_in _ _ _ (c.as_slice.ensures.value ∙ c.self.view_is) c.in_default.ensures.held_nowhere,
       lowest_free s c.args.self.now c.self.inside.free slot f.0 c.index.result.now c.self.view_is f.1
-      (c.index.ensures ∙ get_or_from_slice_get s slot (place f.0 None) c.index.result.now f.1)
-      (λ other. (c.self.invariant.told other).1) c.in-Some-lowest.ensures.lowest,
+          (c.index.ensures ∙ get_or_from_slice_get s slot (place f.0 None) c.index.result.now f.1)
+          (λ other. (c.self.invariant.told other).1) c.in-Some-lowest.ensures.lowest,
     )
 
 pub returns-clause-once : goal.returns-clause-once
@@ -88,9 +91,12 @@ returns-clause-once c =
 pub returns-clause-step : goal.returns-clause-step
 returns-clause-step c =
     let s = c.self.inside.places.items in let slot = c.in-Some-lowest.slot in let g = c.index.result.now.generation in
-    let f = (c.self.invariant.told slot).0 c.in-Some-lowest.ensures.has in ((
-      nowhere_in _ _ _ (c.as_slice.ensures.value ∙ c.self.view_is) c.in_default.ensures.held_nowhere,
-      lowest_free s c.args.self.now c.self.inside.free slot f.0 c.index.result.now c.self.view_is f.1
-      (c.index.ensures ∙ get_or_from_slice_get s slot (place f.0 None) c.index.result.now f.1)
-      (λ other. (c.self.invariant.told other).1) c.in-Some-lowest.ensures.lowest,
-    ), ap (λ (x : Places). set x slot (place g (Some c.in_ok-key.key))) c.self.view_is ∙ ap (λ (x : Key). set c.args.self.now slot (place g (Some x))) c.in_ok-key.ensures)
+    let f = (c.self.invariant.told slot).0 c.in-Some-lowest.ensures.has in (
+      (
+        nowhere_in _ _ _ (c.as_slice.ensures.value ∙ c.self.view_is) c.in_default.ensures.held_nowhere,
+        lowest_free s c.args.self.now c.self.inside.free slot f.0 c.index.result.now c.self.view_is f.1
+            (c.index.ensures ∙ get_or_from_slice_get s slot (place f.0 None) c.index.result.now f.1)
+            (λ other. (c.self.invariant.told other).1) c.in-Some-lowest.ensures.lowest,
+      ),
+      ap (λ (x : Places). set x slot (place g (Some c.in_ok-key.key))) c.self.view_is ∙ ap (λ (x : Key). set c.args.self.now slot (place g (Some x))) c.in_ok-key.ensures,
+    )

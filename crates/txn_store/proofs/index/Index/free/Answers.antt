@@ -35,8 +35,8 @@ returns-clause-step c =
     let l : c.args.slot < length s = let r = c.requires in omega arith in (
       c.requires,
       is_after s c.args.self.now c.args.slot c.saturating_add-place.result p c.self.view_is
-      (slice_get-get_or s c.args.slot p l ∙ ap (λ (x : IndexPlace). Some x) (sym c.index_mut-place.ensures.value))
-      (ap (λ (x : ℕ). place x None) c.saturating_add-place.ensures),
+          (slice_get-get_or s c.args.slot p l ∙ ap (λ (x : IndexPlace). Some x) (sym c.index_mut-place.ensures.value))
+          (ap (λ (x : ℕ). place x None) c.saturating_add-place.ensures),
     )
 
 pub invariant_of-self : goal.invariant_of-self
