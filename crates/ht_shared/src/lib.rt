@@ -12,6 +12,7 @@ mod tables;
 
 pub use cell::{TableCell, TablesFixed};
 pub use ht_core::{Key, Patterns, TabOp, TabRecord, TabReply, Table, TableSpec};
+pub use key_hash::HashState;
 pub use tables::Tables;
 pub use turn_table::{Closed, Pass};
 

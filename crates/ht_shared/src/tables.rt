@@ -11,6 +11,7 @@ ghost use Rattle.ht_shared.specs.Shared.{IsTablesPass, specs_of, patterns_of, co
 
 use crate::cell::{IsShown, Shown, TableCell, TablesFixed};
 use ht_core::{TabOp, TabReply, Table};
+use key_hash::HashState;
 use pv_values::{Patterns, TableSpec};
 use std::alloc::{AllocError as NoMemory, Global};
 use std::snapshot::Snapshot;
@@ -24,7 +25,8 @@ pub struct Tables {
 }
 
 impl Tables {
-    /// A table without items for each of these specifications, in order, and a pass for each number below `workers`.
+    /// A table without items for each of these specifications, in order, and a pass for each number below `workers`. Keys
+    /// are hashed with a fixed seed.
     pub fn new(
         alloc: Global,
         specs: &[TableSpec],
@@ -37,11 +39,28 @@ impl Tables {
         ensures patterns { IfOk result (λ r. patterns_of r.0 ≡ patterns.now) }
         ensures passes { IfOk result (λ r. AreNewPasses (id_of r.0.turns) (fixed_of r.0.turns) workers r.1.items) }
     {
+        Tables::with_hasher(alloc, specs, patterns, workers, HashState::Fixed)
+    }
+
+    /// The same, where keys are hashed by this.
+    pub fn with_hasher(
+        alloc: Global,
+        specs: &[TableSpec],
+        patterns: &Patterns,
+        workers: u32,
+        state: HashState,
+    ) -> Result<(Tables, Vec<Pass<TableCell>>), NoMemory>
+        requires some_worker { 0 < workers }
+        requires few { length specs.now < 2 ^ 32 }
+        ensures specs { IfOk result (λ r. (specs_of r.0 ≡ specs.now) × (count_of r.0 ≡ length specs.now)) }
+        ensures patterns { IfOk result (λ r. patterns_of r.0 ≡ patterns.now) }
+        ensures passes { IfOk result (λ r. AreNewPasses (id_of r.0.turns) (fixed_of r.0.turns) workers r.1.items) }
+    {
         let fixed = TablesFixed {
             specs: Vec::from_slice(alloc, specs)?,
             patterns: Snapshot::of(patterns),
         };
-        let cells = fresh_cells(alloc, specs)?;
+        let cells = fresh_cells(alloc, specs, state)?;
         let (turns, passes) = Turns::new(alloc, cells, workers, &fixed)?;
         Ok((Tables { turns }, passes))
     }
@@ -88,13 +107,17 @@ impl Tables {
     }
 }
 
-// A cell with a table without items for each specification.
-fn fresh_cells(alloc: Global, specs: &[TableSpec]) -> Result<Vec<TableCell>, NoMemory>
+// A cell with a table without items for each specification. Keys are hashed by this.
+fn fresh_cells(
+    alloc: Global,
+    specs: &[TableSpec],
+    state: HashState,
+) -> Result<Vec<TableCell>, NoMemory>
     ensures { IfOk result (λ v. map (λ c. state_of c.table) v.items ≡ map fresh specs.now) }
 {
     let mut cells = Vec::with_capacity(alloc, specs.len())?;
     for k in 0..specs.len() {
-        let table = Table::new(alloc, specs[k])?;
+        let table = Table::with_hasher(alloc, specs[k], state)?;
         cells.push_reserved(TableCell { table });
     }
     Ok(cells)

@@ -31,7 +31,7 @@ pub runs_keep_slots : (s u : Places) (rs : List IndexRecord) → Runs IndexStep 
 runs_keep_slots s u rs a = runs_keep IndexStep (λ t. length t ≡ length s) (keeps_slots (length s)) s u rs a refl
 
 -- an element of a list in which one was set is that one, or an old one
-at_set : {X : Type 0} (xs : List X) (i k : ℕ) (y z : X) → slice_get (set xs i y) k ≡ Some z → ((k ≡ i) × (y ≡ z)) ⊎ (slice_get xs k ≡ Some z)
+pub at_set : {X : Type 0} (xs : List X) (i k : ℕ) (y z : X) → slice_get (set xs i y) k ≡ Some z → ((k ≡ i) × (y ≡ z)) ⊎ (slice_get xs k ≡ Some z)
 at_set [] i k y z e = inr e
 at_set (x ∷ xs) zero zero y z e = inl (refl, same_Some y z e)
 at_set (x ∷ xs) zero (suc k) y z e = inr e
@@ -47,18 +47,18 @@ new_holds : (s : Places) (slot g k h : ℕ) (key other : Key) → HoldsKey (set 
 new_holds s slot g k h key other e =
     ⊎_elim (λ p. inl (p.0, same_key _ _ key other p.1 refl refl)) inr (at_set s slot k (record { generation = g; key = Some key }) (record { generation = h; key = Some other }) e)
 
-once_new : (s : Places) (slot g : ℕ) (key : Key) → EachKeyIsOnce s → IsHeldNowhere s key → EachKeyIsOnce (set s slot (record { generation = g; key = Some key }))
+pub once_new : (s : Places) (slot g : ℕ) (key : Key) → EachKeyIsOnce s → IsHeldNowhere s key → EachKeyIsOnce (set s slot (record { generation = g; key = Some key }))
 once_new s slot g key once nowhere = λ k h i j other a b.
     ⊎_elim
     (λ p. ⊎_elim (λ q. p.0 ∙ sym q.0) (λ q. absurd (nowhere i j (subst (λ z. HoldsKey s i j z) (sym p.1) q))) (new_holds s slot g i j key other b))
     (λ p. ⊎_elim (λ q. absurd (nowhere k h (subst (λ z. HoldsKey s k h z) (sym q.1) p))) (λ q. once k h i j other p q) (new_holds s slot g i j key other b))
     (new_holds s slot g k h key other a)
 
-freed_holds : (s : Places) (slot k h : ℕ) (p : IndexPlace) (other : Key) → HoldsKey (set s slot (freed p)) k h other → HoldsKey s k h other
+pub freed_holds : (s : Places) (slot k h : ℕ) (p : IndexPlace) (other : Key) → HoldsKey (set s slot (freed p)) k h other → HoldsKey s k h other
 freed_holds s slot k h p other e =
     ⊎_elim (λ q. absurd (none-some other (ap (λ (z : IndexPlace). z.key) q.1))) (λ q. q) (at_set s slot k (freed p) (record { generation = h; key = Some other }) e)
 
-once_freed : (s : Places) (slot : ℕ) (o : Option IndexPlace) → EachKeyIsOnce s → EachKeyIsOnce (option_map_or (λ (p : IndexPlace). set s slot (freed p)) o s)
+pub once_freed : (s : Places) (slot : ℕ) (o : Option IndexPlace) → EachKeyIsOnce s → EachKeyIsOnce (option_map_or (λ (p : IndexPlace). set s slot (freed p)) o s)
 once_freed s slot None once = once
 once_freed s slot (Some p) once = λ k h i j other a b. once k h i j other (freed_holds s slot k h p other a) (freed_holds s slot i j p other b)
 

@@ -12,6 +12,7 @@ ghost use Rattle.txn_store.specs.declared.record.IndexRecord.TheVariants as reco
 use crate::index::{Index, IndexEnd};
 use crate::record::IndexRecord;
 use histories::{Same, Telling};
+use key_hash::HashState;
 use server_key::KeyView;
 use std::alloc::{AllocError as NoMemory, Global};
 use std::snapshot::Snapshot;
@@ -47,7 +48,8 @@ impl<'a> Telling<Asked<'a, Option<(u32, u64)>>, IndexRecord> for IsAsked {
     ghost told = { λ asked r. r ≡ recorded.Find (shown_key asked.key.value) asked.answer };
 }
 
-/// An index of this many slots, which hold no key, and a pass for each number below `workers`.
+/// An index of this many slots, which hold no key, and a pass for each number below `workers`. Keys are
+/// hashed with a fixed seed.
 pub fn share_index(
     alloc: Global,
     slots: u32,
@@ -57,8 +59,22 @@ pub fn share_index(
     ensures cell { IfOk result (λ r. (cells_of r.0 ≡ 1) × (fixed_of r.0 ≡ slots)) }
     ensures passes { IfOk result (λ r. AreNewPasses (id_of r.0) slots workers r.1.items) }
 {
+    share_index_with_hasher(alloc, slots, workers, HashState::Fixed)
+}
+
+/// `share_index` of an index whose keys are hashed by this.
+pub fn share_index_with_hasher(
+    alloc: Global,
+    slots: u32,
+    workers: u32,
+    state: HashState,
+) -> Result<(Turns<Index>, Vec<Pass<Index>>), NoMemory>
+    requires { 0 < workers }
+    ensures cell { IfOk result (λ r. (cells_of r.0 ≡ 1) × (fixed_of r.0 ≡ slots)) }
+    ensures passes { IfOk result (λ r. AreNewPasses (id_of r.0) slots workers r.1.items) }
+{
     let mut cells = Vec::with_capacity(alloc, 1)?;
-    cells.push_reserved(Index::new(alloc, slots)?);
+    cells.push_reserved(Index::with_hasher(alloc, slots, state)?);
     Turns::new(alloc, cells, workers, &slots)
 }
 

@@ -7,23 +7,28 @@
 //! What a slot's value means is for the crate above to say, by `SlotValue`.
 #![tactic(auto)]
 
+mod hashed;
 mod index;
 mod index_cell;
 pub mod laws;
 mod pool_cell;
 mod record;
-mod scan;
 mod slot_cell;
 mod wheel_cell;
 
 pub use index::{Index, IndexEnd, IndexPlace};
-pub use index_cell::{claim_key, find_key, free_slot, share_index};
+pub use index_cell::{claim_key, find_key, free_slot, share_index, share_index_with_hasher};
+pub use key_hash::HashState;
 pub use pool_cell::{PoolCell, free_blocks, give_block, share_pool, take_block};
 pub use record::IndexRecord;
 pub use server_key::{Key, KeyView};
 pub use slot_cell::{SlotCell, SlotValue};
 pub use wheel_cell::{WheelCell, clear_timer, next_due, pop_due, set_timer, share_wheel};
 
+#[cfg(test)]
+mod plain;
+#[cfg(test)]
+mod plain_tests;
 #[cfg(test)]
 mod shared_tests;
 #[cfg(test)]

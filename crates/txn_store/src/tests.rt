@@ -2,6 +2,7 @@ ghost use Rattle.std.specs.Prelude.{◌≡◌, length};
 
 use super::IndexEnd::{Full, New, Old};
 use super::{Index, IndexEnd, KeyView};
+use key_hash::HashState;
 use std::process::Abort;
 use std::test::Fail;
 
@@ -127,7 +128,7 @@ fn index_of_no_slots_is_full(rt: HostRuntime) -> Result<(), Fail> {
 
 #[test]
 fn the_greatest_generation_has_no_next_one(rt: HostRuntime) -> Result<(), Fail> {
-    let mut index = Index::of_generation(rt.alloc(), 1, u64::MAX - 1)?;
+    let mut index = Index::of_generation(rt.alloc(), 1, u64::MAX - 1, 1, HashState::Fixed)?;
     assert_eq!(rt; index.claim(FIRST)?, new(0, u64::MAX - 1));
     index.free(0);
     assert_eq!(rt; index.claim(FIRST)?, new(0, u64::MAX));

@@ -1,7 +1,7 @@
 use Rattle.std.proofs.Common.{◌≡◌, ◌≤◌}
 use Rattle.std.specs.Vec.{vec_capacity}
 use Rattle.txn_store.specs.Places.{vacant_places_of}
-use Rattle.txn_store.proofs.index.Index.of_generation.Given as goal
+use Rattle.txn_store.proofs.index.vacant_places.Given as goal
 
 abbrev pub invariant-loop-slot : goal.invariant-loop-slot
 invariant-loop-slot l = record {
