@@ -1,5 +1,6 @@
 //! The commands over files and a console in memory. Expected texts are worked out by hand.
 
+mod blocks;
 mod checks;
 mod runs;
 mod syntax;
