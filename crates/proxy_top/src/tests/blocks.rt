@@ -1,6 +1,6 @@
 //! What a block does to its message, by whole scripts in `sim`: the codes of its functions, which it logs, and what is sent.
 
-use super::{holds, sim_case};
+use super::{Row, holds, rows_hold, sim_case};
 use std::alloc::{AllocError, Global};
 use std::process::Abort;
 use std::test::Fail;
@@ -216,8 +216,7 @@ drop 1 script_silent
 end 1 live 0
 ";
 
-/// What it shows, a script, a scenario, and its trace.
-const RUNS: [(&str, &str, &str, &str); 7] = [
+const RUNS: [Row; 7] = [
     (
         "the ACK of a call",
         GOES_BY_ITS_ROUTE,
@@ -234,11 +233,7 @@ const RUNS: [(&str, &str, &str, &str); 7] = [
 
 #[test]
 fn blocks_change_their_messages(rt: HostRuntime) -> Result<(), Fail> {
-    for (shows, script, scenario, trace) in &RUNS {
-        let case = sim_case(shows, script, scenario, 0, trace);
-        assert!(rt; holds(rt.alloc(), &case)?, "{shows}");
-    }
-    Ok(())
+    rows_hold(&rt, rt.alloc(), &RUNS, 0)
 }
 
 /// A request to a target with Route fields: the target, the fields, and the code of `loose_route`, the target and the
@@ -378,12 +373,7 @@ fn with_vias(alloc: Global, vias: usize) -> Result<(String, String), AllocError>
 
 /// Whether `sl_send_reply` with a reason of so many bytes, over an OPTIONS with so many Via fields, is answered by this code,
 /// and the response is sent where the code is 1.
-fn responds(
-    alloc: Global,
-    vias: usize,
-    reason_bytes: usize,
-    code: i64,
-) -> Result<bool, Fail> {
+fn responds(alloc: Global, vias: usize, reason_bytes: usize, code: i64) -> Result<bool, Fail> {
     let (scenario, fields) = with_vias(alloc, vias)?;
     let reason = "x".repeat(alloc, reason_bytes)?;
     let script = format!(in alloc;
@@ -411,7 +401,12 @@ fn responds(
 
 /// How many Via fields and bytes of a reason, and the code. With one Via field a response has 170 bytes beside its reason:
 /// the longest has 8,192. A response has five fields beside Via: 128 at most.
-const RESPONSES: [(usize, usize, i64); 4] = [(1, 8_022, 1), (1, 8_023, -3), (123, 2, 1), (124, 2, -3)];
+const RESPONSES: [(usize, usize, i64); 4] = [
+    (1, 8_022, 1),
+    (1, 8_023, -3),
+    (123, 2, 1),
+    (124, 2, -3),
+];
 
 #[test]
 fn a_response_has_at_most_8192_bytes_and_128_fields(rt: HostRuntime) -> Result<(), Fail> {
