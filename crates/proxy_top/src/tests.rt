@@ -2,6 +2,7 @@
 
 mod blocks;
 mod checks;
+mod handed_on;
 mod runs;
 mod syntax;
 mod traces;
