@@ -1,11 +1,11 @@
 //! A run that is handed on from answer to answer: the ACK of a call, and its text after the edits of the run.
 
-ghost use Rattle.std.specs.Prelude.{IfOk};
 ghost use Rattle.sip_msg.specs.Table.{Reads};
 ghost use Rattle.script_host.specs.Lending.{IsRead};
 
 use super::runs::loaded;
 use arrayvec::ArrayVec;
+use cfg_code::Loaded;
 use ht_core::{TabOp, TabReply};
 use msg_edits::apply;
 use outside_ports::Addr;
@@ -16,6 +16,7 @@ use script_host::{
 };
 use sip_msg::Message;
 use std::alloc::{AllocError, Global};
+use std::process::Abort;
 use std::test::Fail;
 
 /// 127.0.0.1:5060
@@ -77,30 +78,67 @@ fn asks_for_calls(ask: &Ask) -> bool {
     }
 }
 
+/// The run that has asked for `calls`.
+fn asking(
+    alloc: Global,
+    lent: &Lent<'_>,
+    shop: &mut Workshop<'_>,
+    data: RunData,
+) -> Option<RestorableRun>
+    requires { IsRead lent.now }
+{
+    let loaded = lent.loaded;
+    match RestorableRun::begin(alloc, loaded, shop, loaded.request, data) {
+        Ok(run) => match run.feed(alloc, lent, shop, Answer::Start) {
+            HostNext::Asks(run, ask) => asks_for_calls(&ask).then_some(run),
+            _ => None,
+        },
+        Err(_) => None,
+    }
+}
+
 /// What the run comes to where its one ask is answered so: whether it has ended, and its data then.
 fn played(
     alloc: Global,
     lent: &Lent<'_>,
     shop: &mut Workshop<'_>,
+    data: RunData,
     answer: Answer,
-) -> Result<Option<(bool, RunData)>, AllocError>
+) -> Option<(bool, RunData)>
     requires { IsRead lent.now }
 {
-    let loaded = lent.loaded;
-    let Ok(run) = RestorableRun::begin(alloc, loaded, shop, loaded.request, data(alloc)?) else {
-        return Err(AllocError);
-    };
-    let HostNext::Asks(run, ask) = run.feed(alloc, lent, shop, Answer::Start) else {
-        return Ok(None);
-    };
-    if !asks_for_calls(&ask) {
-        return Ok(None);
+    match asking(alloc, lent, shop, data) {
+        Some(run) => match run.feed(alloc, lent, shop, answer) {
+            HostNext::Ended(data, How::Normal) => Some((true, data)),
+            HostNext::NoMemory(data) => Some((false, data)),
+            _ => None,
+        },
+        None => None,
     }
-    match run.feed(alloc, lent, shop, answer) {
-        HostNext::Ended(data, How::Normal) => Ok(Some((true, data))),
-        HostNext::NoMemory(data) => Ok(Some((false, data))),
-        _ => Ok(None),
-    }
+}
+
+/// The same of a run over this message.
+fn played_over<'a>(
+    alloc: Global,
+    loaded: &'a Loaded,
+    settings: &'a Settings,
+    b: &'a [u8],
+    m: &'a Message,
+    answer: Answer,
+) -> Result<Option<(bool, RunData)>, AllocError>
+    requires { Reads b.now m.now }
+{
+    let data = data(alloc)?;
+    let mut shop = Workshop::new(alloc, loaded)?;
+    let lent = Lent {
+        loaded,
+        settings,
+        message: Some(MessageView {
+            bytes: b,
+            message: m,
+        }),
+    };
+    Ok(played(alloc, &lent, &mut shop, data, answer))
 }
 
 /// The text of the message after the edits of these data.
@@ -111,42 +149,71 @@ fn edited(alloc: Global, b: &[u8], data: &RunData) -> Result<Vec<u8>, AllocError
     Ok(room)
 }
 
-/// Whether the run comes to this where its ask is answered so: whether it has ended, and the text of the message then.
-fn comes_to(alloc: Global, answer: Answer, ended: bool, text: &str) -> Result<bool, Fail> {
-    let Some(loaded) = loaded(alloc, SCRIPT)? else {
-        return Ok(false);
-    };
+/// The message that these bytes are.
+fn message(rt: &impl Abort, b: &[u8]) -> Message
+    ensures { Reads b.now result }
+{
+    match Message::read(b) {
+        Ok(m) => m,
+        Err(fault) => panic!(rt; "{fault:?}"),
+    }
+}
+
+/// Whether the run has ended where its ask is answered so, and the text of the message then; nothing where it asks another.
+fn comes_to(
+    rt: &impl Abort,
+    alloc: Global,
+    loaded: &Loaded,
+    answer: Answer,
+) -> Result<Option<(bool, Vec<u8>)>, AllocError> {
     let settings = settings(alloc);
     let b = ACK.as_bytes();
-    let Ok(m) = Message::read(b) else {
-        return Ok(false);
-    };
-    let lent = Lent {
-        loaded: &loaded,
-        settings: &settings,
-        message: Some(MessageView {
-            bytes: b,
-            message: &m,
-        }),
-    };
-    let mut shop = Workshop::new(alloc, &loaded)?;
-    match played(alloc, &lent, &mut shop, answer)? {
-        Some((has_ended, data)) => {
-            Ok(has_ended == ended && edited(alloc, b, &data)?.as_slice() == text.as_bytes())
-        }
-        None => Ok(false),
+    let m = message(rt, b);
+    match played_over(alloc, &*loaded, &settings, b, &m, answer)? {
+        Some((ended, data)) => Ok(Some((ended, edited(alloc, b, &data)?))),
+        None => Ok(None),
     }
+}
+
+/// It is so.
+fn is_so(
+    rt: &impl Abort,
+    alloc: Global,
+    loaded: &Loaded,
+    answer: Answer,
+    wanted: (bool, &str),
+) -> Result<(), AllocError> {
+    match comes_to(rt, alloc, loaded, answer)? {
+        Some((ended, text)) => {
+            assert_eq!(rt; ended, wanted.0);
+            assert_eq!(rt; text.as_slice(), wanted.1.as_bytes());
+        }
+        None => assert!(rt; false, "it asks another"),
+    }
+    Ok(())
+}
+
+fn count(n: i64) -> Answer {
+    Answer::Table(TabReply::Value(Val::Int(n)))
 }
 
 #[test]
 fn an_ack_is_edited_as_far_as_there_is_memory(rt: HostRuntime) -> Result<(), Fail> {
     let alloc = rt.alloc();
-    let count = |n| Answer::Table(TabReply::Value(Val::Int(n)));
-    assert!(rt; comes_to(alloc, count(9), true, EDITED)?);
-    assert!(rt; comes_to(alloc, count(10), true, EDITED_MORE)?);
-    assert!(rt; comes_to(alloc, Answer::Table(TabReply::Null), true, EDITED)?);
+    let Some(loaded) = loaded(alloc, SCRIPT)? else {
+        return Err("refused".into());
+    };
+    is_so(&rt, alloc, &loaded, count(9), (true, EDITED))?;
+    is_so(&rt, alloc, &loaded, count(10), (true, EDITED_MORE))?;
+    is_so(
+        &rt,
+        alloc,
+        &loaded,
+        Answer::Table(TabReply::Null),
+        (true, EDITED),
+    )?;
     // Its edits are undone where there is no memory, and where the answer doesn't fit.
-    assert!(rt; comes_to(alloc, Answer::NoMemory, false, ACK)?);
-    assert!(rt; comes_to(alloc, Answer::Sent, false, ACK)?);
+    is_so(&rt, alloc, &loaded, Answer::NoMemory, (false, ACK))?;
+    is_so(&rt, alloc, &loaded, Answer::Sent, (false, ACK))?;
     Ok(())
 }
