@@ -1,6 +1,8 @@
 //! The commands over files and a console in memory. Expected texts are worked out by hand.
 
+mod blocks;
 mod checks;
+mod handed_on;
 mod runs;
 mod syntax;
 mod traces;
@@ -8,6 +10,7 @@ mod traces;
 use crate::simulate;
 use outside_ports::{MemConsole, MemFiles};
 use std::alloc::Global;
+use std::process::Abort;
 use std::test::Fail;
 
 const SCRIPT: &str = "request_route { sl_send_reply(\"200\", \"OK\"); }";
@@ -171,134 +174,95 @@ fn holds_with(alloc: Global, case: &Case<'_>, script: &[u8]) -> Result<bool, Fai
     Ok(status == case.status && console.printed() == case.printed.as_bytes())
 }
 
-#[test]
-fn scenarios_print_their_trace(rt: HostRuntime) -> Result<(), Fail> {
-    let other = "request_route { sl_send_reply(\"404\", \"Not here\"); }\n";
-    let cases = [
-        sim_case("one options is answered", SCRIPT, OPTIONS, 0, ANSWER),
-        sim_case("the source decides", other, BEHIND_NAT, 0, NAT_ANSWER),
-        sim_case("no datagram", SCRIPT, "end 7\n", 0, "end 7 live 0\n"),
-        sim_case(
-            "an empty datagram",
-            SCRIPT,
-            "in 3 1.2.3.4:5\nend 3\n",
-            0,
-            "drop 3 keepalive\nend 3 live 0\n",
-        ),
-        sim_case(
-            "hosts, which are not used, and bytes",
-            SCRIPT,
-            "host a.example 1.2.3.4:5\nin 3 1.2.3.4:5\n+0d0A\n+\nend 4\n",
-            0,
-            "drop 3 keepalive\nend 4 live 0\n",
-        ),
-    ];
-    for case in &cases {
-        assert!(rt; holds(rt.alloc(), case)?, "{}", case.shows);
+/// What a row shows, its script, its scenario, and what is printed.
+type Row = (&'static str, &'static str, &'static str, &'static str);
+
+/// Each row of `sim` ends with this status.
+fn rows_hold(rt: &impl Abort, alloc: Global, rows: &[Row], status: u8) -> Result<(), Fail> {
+    for (shows, script, scenario, printed) in rows {
+        let case = sim_case(shows, script, scenario, status, printed);
+        assert!(rt; holds(alloc, &case)?, "{shows}");
     }
     Ok(())
 }
 
+const TRACES: [Row; 5] = [
+    ("one options is answered", SCRIPT, OPTIONS, ANSWER),
+    (
+        "the source decides",
+        "request_route { sl_send_reply(\"404\", \"Not here\"); }\n",
+        BEHIND_NAT,
+        NAT_ANSWER,
+    ),
+    ("no datagram", SCRIPT, "end 7\n", "end 7 live 0\n"),
+    (
+        "an empty datagram",
+        SCRIPT,
+        "in 3 1.2.3.4:5\nend 3\n",
+        "drop 3 keepalive\nend 3 live 0\n",
+    ),
+    (
+        "hosts, which are not used, and bytes",
+        SCRIPT,
+        "host a.example 1.2.3.4:5\nin 3 1.2.3.4:5\n+0d0A\n+\nend 4\n",
+        "drop 3 keepalive\nend 4 live 0\n",
+    ),
+];
+
+#[test]
+fn scenarios_print_their_trace(rt: HostRuntime) -> Result<(), Fail> {
+    rows_hold(&rt, rt.alloc(), &TRACES, 0)
+}
+
+const REFUSED: [Row; 3] = [
+    ("an empty script", "", OPTIONS, "refused 14 at 0..0\n"),
+    (
+        "a script that isn't closed",
+        "request_route { sl_send_reply(\"200\", \"OK\");",
+        OPTIONS,
+        "refused 3 at 43..43\n",
+    ),
+    (
+        "an unknown function",
+        "request_route { send(\"200\"); }",
+        "go",
+        "refused 6 at 16..20\n",
+    ),
+];
+
+/// What a row shows, a scenario, and the number of its first line in no form.
+const WRONG_LINES: [(&str, &str, u32); 13] = [
+    ("the second line is go", "\ngo\nend 0\n", 2),
+    ("no end", "#\n", 2),
+    ("no LF at the end", "end 0", 1),
+    ("a leading zero", "in 00 1.2.3.4:5\nend 0\n", 1),
+    ("port 0", "in 0 1.2.3.4:0\nend 0\n", 1),
+    ("an octet of 256", "in 0 1.2.3.256:5\nend 0\n", 1),
+    (
+        "a moment that falls",
+        "in 2 1.2.3.4:5\nin 1 1.2.3.4:5\nend 2\n",
+        2,
+    ),
+    ("an odd digit", "in 1 1.2.3.4:5\n+0d0\nend 1\n", 2),
+    (
+        "a host behind a datagram",
+        "in 1 1.2.3.4:5\nhost a 1.2.3.4:5\nend 1\n",
+        2,
+    ),
+    ("text before a datagram", "|x\nend 0\n", 1),
+    ("an end before an arrival", "in 2 1.2.3.4:5\nend 1\n", 2),
+    ("an end after a day", "end 86400001\n", 1),
+    ("a line behind the end", "end 0\n\n#\nend 0\n", 4),
+];
+
 #[test]
 fn scripts_and_scenarios_in_no_form(rt: HostRuntime) -> Result<(), Fail> {
-    let cases = [
-        sim_case("an empty script", "", OPTIONS, 2, "refused 14 at 0..0\n"),
-        sim_case(
-            "a script that isn't closed",
-            "request_route { sl_send_reply(\"200\", \"OK\");",
-            OPTIONS,
-            2,
-            "refused 3 at 43..43\n",
-        ),
-        sim_case(
-            "an unknown function",
-            "request_route { send(\"200\"); }",
-            "go",
-            2,
-            "refused 6 at 16..20\n",
-        ),
-        sim_case(
-            "the second line is go",
-            SCRIPT,
-            "\ngo\nend 0\n",
-            3,
-            "scenario line 2\n",
-        ),
-        sim_case("no end", SCRIPT, "#\n", 3, "scenario line 2\n"),
-        sim_case("no LF at the end", SCRIPT, "end 0", 3, "scenario line 1\n"),
-        sim_case(
-            "a leading zero",
-            SCRIPT,
-            "in 00 1.2.3.4:5\nend 0\n",
-            3,
-            "scenario line 1\n",
-        ),
-        sim_case(
-            "port 0",
-            SCRIPT,
-            "in 0 1.2.3.4:0\nend 0\n",
-            3,
-            "scenario line 1\n",
-        ),
-        sim_case(
-            "an octet of 256",
-            SCRIPT,
-            "in 0 1.2.3.256:5\nend 0\n",
-            3,
-            "scenario line 1\n",
-        ),
-        sim_case(
-            "a moment that falls",
-            SCRIPT,
-            "in 2 1.2.3.4:5\nin 1 1.2.3.4:5\nend 2\n",
-            3,
-            "scenario line 2\n",
-        ),
-        sim_case(
-            "an odd digit",
-            SCRIPT,
-            "in 1 1.2.3.4:5\n+0d0\nend 1\n",
-            3,
-            "scenario line 2\n",
-        ),
-        sim_case(
-            "a host behind a datagram",
-            SCRIPT,
-            "in 1 1.2.3.4:5\nhost a 1.2.3.4:5\nend 1\n",
-            3,
-            "scenario line 2\n",
-        ),
-        sim_case(
-            "text before a datagram",
-            SCRIPT,
-            "|x\nend 0\n",
-            3,
-            "scenario line 1\n",
-        ),
-        sim_case(
-            "an end before an arrival",
-            SCRIPT,
-            "in 2 1.2.3.4:5\nend 1\n",
-            3,
-            "scenario line 2\n",
-        ),
-        sim_case(
-            "an end after a day",
-            SCRIPT,
-            "end 86400001\n",
-            3,
-            "scenario line 1\n",
-        ),
-        sim_case(
-            "a line behind the end",
-            SCRIPT,
-            "end 0\n\n#\nend 0\n",
-            3,
-            "scenario line 4\n",
-        ),
-    ];
-    for case in &cases {
-        assert!(rt; holds(rt.alloc(), case)?, "{}", case.shows);
+    let alloc = rt.alloc();
+    rows_hold(&rt, alloc, &REFUSED, 2)?;
+    for (shows, scenario, number) in &WRONG_LINES {
+        let printed = format!(in alloc; "scenario line {number}\n")?;
+        let case = sim_case(shows, SCRIPT, scenario, 3, printed.as_str());
+        assert!(rt; holds(alloc, &case)?, "{shows}");
     }
     Ok(())
 }
@@ -344,102 +308,82 @@ fn words_files_and_consoles_that_fail(rt: HostRuntime) -> Result<(), Fail> {
     Ok(())
 }
 
+/// What a row shows, a script, the status of its check, and what is printed.
+const CHECKS: [(&str, &str, u8, &str); 12] = [
+    (
+        "a stray byte",
+        "request_route { @ }",
+        2,
+        "refused 1 at 16..17\n",
+    ),
+    (
+        "an open string",
+        "request_route { xlog(\"a",
+        2,
+        "refused 2 at 21..23\n",
+    ),
+    ("no block", "request_route }", 2, "refused 3 at 14..15\n"),
+    (
+        "an open block",
+        "request_route {",
+        2,
+        "refused 3 at 15..15\n",
+    ),
+    ("the usual script", USUAL, 0, "accepted\n"),
+    ("held messages", HOLDING, 0, "accepted\n"),
+    ("the shortest", "request_route{}", 0, "accepted\n"),
+    (
+        "a route twice",
+        "route[A]{}\nroute[A]{}\nrequest_route{}",
+        2,
+        "refused 5 at 17..18\n",
+    ),
+    (
+        "a function in a wrong block",
+        "event_route[x]{t_relay();}\nrequest_route{}",
+        2,
+        "refused 7 at 15..22\n",
+    ),
+    (
+        "a string that is no pattern",
+        "request_route{if($ru=~\"(\"){}}",
+        2,
+        "refused 12 at 22..25\n",
+    ),
+    ("no request route", "", 2, "refused 14 at 0..0\n"),
+    (
+        "an unknown module",
+        "loadmodule \"usrloc.so\"\nrequest_route{}",
+        2,
+        "refused 15 at 11..22\n",
+    ),
+];
+
 #[test]
-fn texts_that_have_no_tree(rt: HostRuntime) -> Result<(), Fail> {
-    let cases = [
-        check_case(
-            "a stray byte",
-            "request_route { @ }",
-            2,
-            "refused 1 at 16..17\n",
-        ),
-        check_case(
-            "an open string",
-            "request_route { xlog(\"a",
-            2,
-            "refused 2 at 21..23\n",
-        ),
-        check_case("no block", "request_route }", 2, "refused 3 at 14..15\n"),
-        check_case(
-            "an open block",
-            "request_route {",
-            2,
-            "refused 3 at 15..15\n",
-        ),
-    ];
-    for case in &cases {
-        assert!(rt; holds(rt.alloc(), case)?, "{}", case.shows);
+fn scripts_that_are_checked(rt: HostRuntime) -> Result<(), Fail> {
+    for (shows, script, status, printed) in &CHECKS {
+        let case = check_case(shows, script, *status, printed);
+        assert!(rt; holds(rt.alloc(), &case)?, "{shows}");
     }
     Ok(())
 }
 
-#[test]
-fn scripts_that_are_checked(rt: HostRuntime) -> Result<(), Fail> {
-    let cases = [
-        check_case("the usual script", USUAL, 0, "accepted\n"),
-        check_case("held messages", HOLDING, 0, "accepted\n"),
-        check_case("the shortest", "request_route{}", 0, "accepted\n"),
-        check_case(
-            "a route twice",
-            "route[A]{}\nroute[A]{}\nrequest_route{}",
-            2,
-            "refused 5 at 17..18\n",
-        ),
-        check_case(
-            "a function in a wrong block",
-            "event_route[x]{t_relay();}\nrequest_route{}",
-            2,
-            "refused 7 at 15..22\n",
-        ),
-        check_case(
-            "a string that is no pattern",
-            "request_route{if($ru=~\"(\"){}}",
-            2,
-            "refused 12 at 22..25\n",
-        ),
-        check_case("no request route", "", 2, "refused 14 at 0..0\n"),
-        check_case(
-            "an unknown module",
-            "loadmodule \"usrloc.so\"\nrequest_route{}",
-            2,
-            "refused 15 at 11..22\n",
-        ),
-    ];
-    for case in &cases {
-        assert!(rt; holds(rt.alloc(), case)?, "{}", case.shows);
-    }
-    Ok(())
+/// A text of so many bytes with which no token begins is refused so by `check`, or by `sim`.
+fn refuses_long(alloc: Global, words: &[&str], bytes: usize, printed: &str) -> Result<bool, Fail> {
+    let text = vec![in alloc; b'@'; bytes]?;
+    let case = Case {
+        words,
+        ..sim_case("a long text", "", OPTIONS, 2, printed)
+    };
+    holds_with(alloc, &case, text.as_slice())
 }
 
 #[test]
 fn scripts_round_the_longest(rt: HostRuntime) -> Result<(), Fail> {
     let alloc = rt.alloc();
-    // No token begins with the byte.
-    let longest = vec![in alloc; b'@'; 1_048_576]?;
-    let case = check_case("the longest", "", 2, "refused 1 at 0..1\n");
-    assert!(rt;
-        holds_with(alloc, &case, longest.as_slice())?,
-        "{}",
-        case.shows
-    );
-    let longer = vec![in alloc; b'@'; 1_048_577]?;
-    let case = check_case("one byte more", "", 2, "refused 13 at 1048576..1048577\n");
-    assert!(rt;
-        holds_with(alloc, &case, longer.as_slice())?,
-        "{}",
-        case.shows
-    );
-    let case = sim_case(
-        "too long for sim",
-        "",
-        OPTIONS,
-        2,
-        "refused 13 at 1048576..1048577\n",
-    );
-    assert!(rt;
-        holds_with(alloc, &case, longer.as_slice())?,
-        "{}",
-        case.shows
-    );
+    let too_long = "refused 13 at 1048576..1048577\n";
+    assert!(rt; refuses_long(alloc, &CHECK, 1_048_576, "refused 1 at 0..1\n")?);
+    assert!(rt; refuses_long(alloc, &CHECK, 1_048_577, too_long)?);
+    assert!(rt; refuses_long(alloc, &SIM, 1_048_577, too_long)?);
     Ok(())
 }

@@ -11,7 +11,7 @@ use std::alloc::{AllocError, Global};
 use std::test::Fail;
 
 /// A script as code, where its text is accepted.
-fn loaded(alloc: Global, text: &str) -> Result<Option<Loaded>, AllocError> {
+pub(super) fn loaded(alloc: Global, text: &str) -> Result<Option<Loaded>, AllocError> {
     match accepted(alloc, text.as_bytes()) {
         Ok(script) => Ok(Some(compile(alloc, script)?)),
         Err(ScriptFault::NoMemory) => Err(AllocError),

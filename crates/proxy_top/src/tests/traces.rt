@@ -1,6 +1,6 @@
 //! The command `sim` over whole scripts: what is logged, sent and dropped, and why.
 
-use super::{holds, sim_case};
+use super::{Row, holds, rows_hold, sim_case};
 use std::alloc::{AllocError, Global};
 use std::test::Fail;
 
@@ -167,17 +167,15 @@ drop 1999 script_silent
 end 1999 live 0
 ";
 
+const TRACES: [Row; 3] = [
+    ("logs, and a response", LOGS, TWO_REQUESTS, LOGGED),
+    ("each cause of a drop", SILENT, DROPS, DROPPED),
+    ("tables and moments", COUNTS, COUNTED_REQUESTS, COUNTED),
+];
+
 #[test]
 fn whole_scripts_print_their_trace(rt: HostRuntime) -> Result<(), Fail> {
-    let cases = [
-        sim_case("logs, and a response", LOGS, TWO_REQUESTS, 0, LOGGED),
-        sim_case("each cause of a drop", SILENT, DROPS, 0, DROPPED),
-        sim_case("tables and moments", COUNTS, COUNTED_REQUESTS, 0, COUNTED),
-    ];
-    for case in &cases {
-        assert!(rt; holds(rt.alloc(), case)?, "{}", case.shows);
-    }
-    Ok(())
+    rows_hold(&rt, rt.alloc(), &TRACES, 0)
 }
 
 /// A malformed request with a Via field of this many bytes behind `p=`, and what is printed of it.

@@ -1,47 +1,10 @@
 //! Whole scripts that are accepted, and what they come to.
 
 use crate::accept::accepted;
+use crate::tests::{HOLDING, USUAL};
 use cfg_tree::Script;
 use std::alloc::{AllocError, Global};
 use std::test::Fail;
-
-/// A proxy that suspends requests, and goes on with them by others.
-const SUSPENDING: &str = r#"
-modparam("htable","htable","w=>size=8;autoexpire=120")
-request_route {
-  if (is_method("REGISTER")) {
-    t_continue("$sht(w=>i$ci)", "$sht(w=>l$ci)", "BACK");
-    sl_send_reply("200", "$rc");
-    exit;
-  }
-  t_suspend();
-  $sht(w=>i$ci) = $T(id_index);
-  $sht(w=>l$ci) = $T(id_label);
-}
-route[BACK] { t_reply("200", "OK"); }
-"#;
-
-/// The usual one.
-const USUAL: &str = r#"#!KAMAILIO
-listen=udp:127.0.0.1:5060
-loadmodule "tm.so"
-loadmodule "rr.so"
-request_route {
-  if (!mf_process_maxfwd_header("10")) { sl_send_reply("483", "Too Many Hops"); exit; }
-  if (is_method("CANCEL")) { if (t_check_trans()) t_relay(); exit; }
-  if (has_totag()) {
-    if (loose_route()) { t_relay(); exit; }
-    if (is_method("ACK")) { if (t_check_trans()) t_relay(); exit; }
-    sl_send_reply("404", "Not here"); exit;
-  }
-  if (is_method("INVITE")) { record_route(); t_on_failure("VM"); }
-  if (!t_relay()) sl_send_reply("500", "Relay error");
-}
-failure_route[VM] {
-  if (t_is_canceled()) exit;
-  if (t_check_status("486|408")) { $du = "sip:192.0.2.8"; t_relay(); }
-}
-"#;
 
 /// Blocks in another order, with all parameters.
 const SETTING: &str = r#"
@@ -132,7 +95,7 @@ const SCRIPTS: [(&str, &str, &str); 5] = [
         "100 256 30000 120000",
     ),
     (
-        SUSPENDING,
+        HOLDING,
         "4 1 request 0 reply None vars 0 patterns 0",
         "100 256 30000 120000 | 8 120 None true",
     ),

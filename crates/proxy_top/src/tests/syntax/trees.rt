@@ -2,6 +2,7 @@
 
 use super::read;
 use super::shown::{tree, tree_with_places};
+use crate::tests::{HOLDING, USUAL};
 use std::test::Fail;
 
 /// What stands behind `return`.
@@ -286,46 +287,11 @@ const PLACES: [(&str, &str); 5] = [
     ),
 ];
 
-/// The script of `load`: how a callback continues a suspended INVITE.
-const CALLBACK: &str = r#"modparam("htable","htable","w=>size=8;autoexpire=120")
-request_route {
-  if (is_method("REGISTER")) {
-    t_continue("$sht(w=>i$ci)", "$sht(w=>l$ci)", "BACK");
-    sl_send_reply("200", "$rc");
-    exit;
-  }
-  t_suspend();
-  $sht(w=>i$ci) = $T(id_index);
-  $sht(w=>l$ci) = $T(id_label);
-}
-route[BACK] { t_reply("200", "OK"); }
-"#;
-
-const CALLBACK_TREE: &str =
+/// The tree of `HOLDING`.
+const HOLDING_TREE: &str =
     "(modparam 'htable' 'htable' 'w=>size=8;autoexpire=120') (request (if (call is_method 'REGISTER') (group (do (call t_continue '$sht(w=>i$ci)' '$sht(w=>l$ci)' 'BACK')) (do (call sl_send_reply '200' '$rc')) (exit))) (do (call t_suspend)) (set $sht(w=>i$ci) $T(id_index)) (set $sht(w=>l$ci) $T(id_label))) (route [BACK] (do (call t_reply '200' 'OK')))";
 
-/// The usual script of a proxy with record routing and voicemail.
-const USUAL: &str = r#"#!KAMAILIO
-listen=udp:127.0.0.1:5060
-loadmodule "tm.so"
-loadmodule "rr.so"
-request_route {
-  if (!mf_process_maxfwd_header("10")) { sl_send_reply("483", "Too Many Hops"); exit; }
-  if (is_method("CANCEL")) { if (t_check_trans()) t_relay(); exit; }
-  if (has_totag()) {
-    if (loose_route()) { t_relay(); exit; }
-    if (is_method("ACK")) { if (t_check_trans()) t_relay(); exit; }
-    sl_send_reply("404", "Not here"); exit;
-  }
-  if (is_method("INVITE")) { record_route(); t_on_failure("VM"); }
-  if (!t_relay()) sl_send_reply("500", "Relay error");
-}
-failure_route[VM] {
-  if (t_is_canceled()) exit;
-  if (t_check_status("486|408")) { $du = "sip:192.0.2.8"; t_relay(); }
-}
-"#;
-
+/// The tree of `USUAL`.
 const USUAL_TREE: &str =
     "(param listen udp:127.0.0.1:5060) (load 'tm.so') (load 'rr.so') (request (if (! (call mf_process_maxfwd_header '10')) (group (do (call sl_send_reply '483' 'Too Many Hops')) (exit))) (if (call is_method 'CANCEL') (group (if (call t_check_trans) (do (call t_relay))) (exit))) (if (call has_totag) (group (if (call loose_route) (group (do (call t_relay)) (exit))) (if (call is_method 'ACK') (group (if (call t_check_trans) (do (call t_relay))) (exit))) (do (call sl_send_reply '404' 'Not here')) (exit))) (if (call is_method 'INVITE') (group (do (call record_route)) (do (call t_on_failure 'VM')))) (if (! (call t_relay)) (do (call sl_send_reply '500' 'Relay error')))) (failure [VM] (if (call t_is_canceled) (exit)) (if (call t_check_status '486|408') (group (set $du 'sip:192.0.2.8') (do (call t_relay)))))";
 
@@ -336,7 +302,7 @@ fn whole_scripts_and_the_places_in_them(rt: HostRuntime) -> Result<(), Fail> {
         let found = tree_with_places(alloc, text)?;
         assert_eq!(rt; found.as_str(), *wanted);
     }
-    for (text, wanted) in &[(CALLBACK, CALLBACK_TREE), (USUAL, USUAL_TREE)] {
+    for (text, wanted) in &[(HOLDING, HOLDING_TREE), (USUAL, USUAL_TREE)] {
         let found = tree(alloc, text)?;
         assert_eq!(rt; found.as_str(), *wanted);
     }
