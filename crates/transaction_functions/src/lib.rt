@@ -12,6 +12,8 @@ mod destinations;
 mod methods;
 mod relaying;
 mod responses;
+#[cfg(test)]
+mod tests;
 mod timers;
 
 pub use destinations::{address_of, target_address};
