@@ -20,57 +20,26 @@ fn append(alloc: Global, of_run: &mut Facts, targets: usize) -> Result<(), Alloc
     Ok(())
 }
 
-/// A call of `t_relay` for an INVITE, and what it comes to.
-struct Call {
-    before: Before,
-    uri: &'static str,
-    fields: &'static str,
-    /// How many branches there are, and how many targets were appended.
-    branches: u8,
-    appended: usize,
-    comes_to: Relaying,
-}
-
 const B: &str = "sip:b@192.0.2.9";
-
-const fn call(before: Before, uri: &'static str, fields: &'static str, comes_to: Relaying) -> Call {
-    Call {
-        before,
-        uri,
-        fields,
-        branches: 0,
-        appended: 0,
-        comes_to,
-    }
-}
-
-const fn forked(branches: u8, appended: usize, comes_to: Relaying) -> Call {
-    Call {
-        before: Before::Exists,
-        uri: B,
-        fields: "",
-        branches,
-        appended,
-        comes_to,
-    }
-}
 
 const ZERO: &str = "Max-Forwards: 0\r\n";
 
-const CALLS: [Call; 13] = [
-    call(Before::Nothing, B, "", Relaying::Wants(2)),
-    call(Before::Responded, B, "Max-Forwards: 1\r\n", Relaying::Wants(2)),
-    call(Before::Outcome, B, ZERO, Relaying::Code(-5)),
-    call(Before::Answered, B, "", Relaying::Code(-5)),
-    call(Before::Suspended, B, "", Relaying::Code(-5)),
-    call(Before::Cancelled, B, ZERO, Relaying::Code(-4)),
-    call(Before::Nothing, "tel:1", ZERO, Relaying::Code(-5)),
-    call(Before::Nothing, "sip:b@other.example", "", Relaying::Code(-1)),
-    forked(0, 2, Relaying::Wants(6)),
-    forked(9, 2, Relaying::Wants(6)),
-    forked(10, 2, Relaying::Code(-1)),
-    forked(0, 12, Relaying::Code(-1)),
-    forked(12, 0, Relaying::Code(-1)),
+/// How the transaction of an INVITE stands, `$ru`, further fields, how many branches there are, how many targets were appended,
+/// and what `t_relay` comes to.
+const CALLS: [(Before, &str, &str, u8, usize, Relaying); 13] = [
+    (Before::Nothing, B, "", 0, 0, Relaying::Wants(2)),
+    (Before::Responded, B, "Max-Forwards: 1\r\n", 0, 0, Relaying::Wants(2)),
+    (Before::Outcome, B, ZERO, 0, 0, Relaying::Code(-5)),
+    (Before::Answered, B, "", 0, 0, Relaying::Code(-5)),
+    (Before::Suspended, B, "", 0, 0, Relaying::Code(-5)),
+    (Before::Cancelled, B, ZERO, 0, 0, Relaying::Code(-4)),
+    (Before::Nothing, "tel:1", ZERO, 0, 0, Relaying::Code(-5)),
+    (Before::Nothing, "sip:b@other.example", "", 0, 0, Relaying::Code(-1)),
+    (Before::Exists, B, "", 0, 2, Relaying::Wants(6)),
+    (Before::Exists, B, "", 9, 2, Relaying::Wants(6)),
+    (Before::Exists, B, "", 10, 2, Relaying::Code(-1)),
+    (Before::Exists, B, "", 0, 12, Relaying::Code(-1)),
+    (Before::Exists, B, "", 12, 0, Relaying::Code(-1)),
 ];
 
 /// What `t_relay` comes to.
@@ -85,7 +54,7 @@ fn comes_to(rt: &impl Abort, alloc: Global, b: &[u8], of_run: &mut Facts) -> Res
 fn is_483(of_run: &Facts) -> bool {
     match &of_run.outcome {
         Outcome::Answered(response) => {
-            response.code == 483 && response.reason.bytes() == b"Too Many Hops"
+            response.code == 483 && response.reason.bytes() == b"Too Many Hops".as_slice()
         }
         _ => false,
     }
@@ -94,16 +63,15 @@ fn is_483(of_run: &Facts) -> bool {
 #[test]
 fn a_request_goes_on_where_nothing_speaks_against_it(rt: HostRuntime) -> Result<(), Fail> {
     let alloc = rt.alloc();
-    for call in &CALLS {
-        let b = request(alloc, "INVITE", call.fields)?;
-        let mut of_run = facts(alloc, call.uri, call.before)?;
-        of_run.branches = call.branches;
-        append(alloc, &mut of_run, call.appended)?;
+    for (before, uri, fields, branches, appended, expected) in &CALLS {
+        let b = request(alloc, "INVITE", fields)?;
+        let mut of_run = facts(alloc, uri, *before)?;
+        of_run.branches = *branches;
+        append(alloc, &mut of_run, *appended)?;
         let found = comes_to(&rt, alloc, b.as_slice(), &mut of_run)?;
-        assert_eq!(rt; found, call.comes_to, "{:?} {}", call.before, call.uri);
-        let has_hop = call.fields != ZERO;
-        let is_open = call.before == Before::Nothing;
-        assert_eq!(rt; (of_run.has_called_relay, is_483(&of_run)), (true, is_open && !has_hop));
+        assert_eq!(rt; found, *expected, "{before:?} {uri} {branches} {appended}");
+        let has_no_hop = *fields == ZERO && *before == Before::Nothing;
+        assert_eq!(rt; (of_run.has_called_relay, is_483(&of_run)), (true, has_no_hop));
     }
     Ok(())
 }

@@ -57,7 +57,7 @@ const REPLIES: [(&str, Before, u16, &str, i64, Decided); 12] = [
 ];
 
 /// What the facts say was decided with this code.
-fn decided(of_run: &Facts, status: u16) -> Decided {
+fn what_was_decided(of_run: &Facts, status: u16) -> Decided {
     match &of_run.outcome {
         Outcome::Answered(response) if response.code == status && of_run.standing.is_answered => {
             Decided::Final
@@ -82,7 +82,7 @@ fn replied(
     let mut room = TextRoom::new(alloc)?;
     let reason = Text::from_slice(alloc, reason)?;
     let code = t_reply(b.as_slice(), &m, &mut of_run, status, reason, &mut room)?;
-    Ok((code, decided(&of_run, status)))
+    Ok((code, what_was_decided(&of_run, status)))
 }
 
 #[test]
