@@ -2,6 +2,8 @@
 ghost use Rattle.std.specs.Prelude.{◌≡◌, IfOk, OnErr, Some, None};
 ghost use Rattle.dialogue.specs.Course.{Ends};
 ghost use Rattle.host_meaning.specs.Run.{RunState, Tells, Lacks};
+ghost use Rattle.host_meaning.specs.Transactions.{found};
+ghost use Rattle.host_meaning.specs.declared.ask.Heard.TheVariants.{Found as FoundAt};
 ghost use Rattle.host_meaning.specs.TableRows.{value_of_reply, written_by_reply, counted_by_reply};
 ghost use Rattle.script_host.specs.Asking.{as_heard};
 ghost use Rattle.script_host.specs.Rows.{left};
@@ -23,6 +25,7 @@ pub(crate) fn hear(wait: Wait, answer: Answer) -> Result<HostAnswer, NoMemory>
         (Wait::Written, Answer::Table(reply)) => write_told(&reply),
         (Wait::Counted, Answer::Table(reply)) => count_told(&reply),
         (Wait::Noted, Answer::Noted) => Some(HostAnswer::Code(1)),
+        (Wait::Found, Answer::Found(at)) => Some(HostAnswer::Code(find_told(at))),
         _ => None,
     };
     told.ok_or(NoMemory)
@@ -51,6 +54,13 @@ fn write_told(reply: &TabReply) -> Option<HostAnswer>
         }
         TabReply::NotNumber | TabReply::Value(_) | TabReply::Count(_) => None,
     }
+}
+
+/// What `t_check_trans` returns: 1 where the transaction is held, else -1.
+fn find_told(at: Option<(u32, u64)>) -> i64
+    ensures { (s : RunState) → found (FoundAt at) s ≡ Tells (HostAnswer.Code result) s }
+{
+    if at.is_some() { 1 } else { -1 }
 }
 
 /// What `sht_rm_name_re` and `sht_reset` return: 1.
