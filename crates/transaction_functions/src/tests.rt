@@ -88,14 +88,14 @@ fn message(rt: &impl Abort, b: &[u8]) -> Message
 }
 
 /// A request of this method from 192.0.2.1 with these further fields.
-fn request(alloc: Global, method: &str, fields: &str) -> Result<Vec<u8>, AllocError> {
+fn request(alloc: Global, method: &str, fields: &[u8]) -> Result<Vec<u8>, AllocError> {
     let mut text = Vec::from_slice(alloc, method.as_bytes())?;
     text.extend_from_slice(
         b" sip:b@192.0.2.9 SIP/2.0\r\nVia: SIP/2.0/UDP 192.0.2.1:5060;branch=z9hG4bK6a\r\nFrom: <sip:a@192.0.2.1>;tag=a\r\nTo: <sip:b@192.0.2.9>\r\nCall-ID: 6\r\nCSeq: 1 ",
     )?;
     text.extend_from_slice(method.as_bytes())?;
     text.extend_from_slice(b"\r\n")?;
-    text.extend_from_slice(fields.as_bytes())?;
+    text.extend_from_slice(fields)?;
     text.extend_from_slice(b"\r\n")?;
     Ok(text)
 }

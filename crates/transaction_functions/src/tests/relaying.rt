@@ -64,7 +64,7 @@ fn is_483(of_run: &Facts) -> bool {
 fn a_request_goes_on_where_nothing_speaks_against_it(rt: HostRuntime) -> Result<(), Fail> {
     let alloc = rt.alloc();
     for (before, uri, fields, branches, appended, expected) in &CALLS {
-        let b = request(alloc, "INVITE", fields)?;
+        let b = request(alloc, "INVITE", fields.as_bytes())?;
         let mut of_run = facts(alloc, uri, *before)?;
         of_run.branches = *branches;
         append(alloc, &mut of_run, *appended)?;
@@ -86,12 +86,11 @@ const ACK: &str =
 
 /// Further fields, the last of which has so many bytes `a`.
 fn with_long_field(alloc: Global, method: &str, bytes: usize) -> Result<Vec<u8>, AllocError> {
-    let mut b = request(alloc, method, "Max-Forwards: 70\r\n")?;
-    b.truncate(b.len() - 2);
-    b.extend_from_slice(b"X: ")?;
-    b.extend_from_slice(vec![in alloc; b'a'; bytes]?.as_slice())?;
-    b.extend_from_slice(b"\r\n\r\n")?;
-    Ok(b)
+    let long = vec![in alloc; b'a'; bytes]?;
+    let mut fields = Vec::from_slice(alloc, b"Max-Forwards: 70\r\nX: ")?;
+    fields.extend_from_slice(long.as_slice())?;
+    fields.extend_from_slice(b"\r\n")?;
+    request(alloc, method, fields.as_slice())
 }
 
 #[test]
@@ -118,7 +117,7 @@ const TRIED: [(&str, Before, usize); 3] = [
 fn a_relayed_request_uses_its_targets_up(rt: HostRuntime) -> Result<(), Fail> {
     let alloc = rt.alloc();
     for (method, before, responses) in &TRIED {
-        let b = request(alloc, method, "")?;
+        let b = request(alloc, method, b"")?;
         let m = message(&rt, b.as_slice());
         let mut of_run = facts(alloc, B, *before)?;
         of_run.branches = 2;
@@ -160,7 +159,7 @@ fn acked(rt: &impl Abort, alloc: Global, b: &[u8], of_run: &mut Facts) -> Result
 fn an_ack_goes_on_without_a_transaction(rt: HostRuntime) -> Result<(), Fail> {
     let alloc = rt.alloc();
     for (before, uri, fields, code) in &ACKS {
-        let b = request(alloc, "ACK", fields)?;
+        let b = request(alloc, "ACK", fields.as_bytes())?;
         let mut of_run = facts(alloc, uri, *before)?;
         let found = acked(&rt, alloc, b.as_slice(), &mut of_run)?;
         assert_eq!(rt; found, (*code, *code == 1), "{before:?} {uri} {fields:?}");

@@ -22,7 +22,7 @@ const NEW: [(&str, Before, i64); 5] = [
 fn a_request_has_one_transaction(rt: HostRuntime) -> Result<(), Fail> {
     let alloc = rt.alloc();
     for (method, before, code) in &NEW {
-        let b = request(alloc, method, "")?;
+        let b = request(alloc, method, b"")?;
         let m = message(&rt, b.as_slice());
         let mut of_run = facts(alloc, "sip:b@192.0.2.9", *before)?;
         assert_eq!(rt; t_newtran(b.as_slice(), &m, &mut of_run), *code, "{method} {before:?}");
@@ -71,24 +71,25 @@ fn what_was_decided(of_run: &Facts, status: u16) -> Decided {
 fn replied(
     rt: &impl Abort,
     alloc: Global,
-    method: &str,
+    b: &[u8],
     before: Before,
     status: u16,
     reason: &[u8],
 ) -> Result<(i64, Decided), AllocError> {
-    let b = request(alloc, method, "")?;
-    let m = message(rt, b.as_slice());
+    let m = message(rt, b);
     let mut of_run = facts(alloc, "sip:b@192.0.2.9", before)?;
     let mut room = TextRoom::new(alloc)?;
     let reason = Text::from_slice(alloc, reason)?;
-    let code = t_reply(b.as_slice(), &m, &mut of_run, status, reason, &mut room)?;
+    let code = t_reply(b, &m, &mut of_run, status, reason, &mut room)?;
     Ok((code, what_was_decided(&of_run, status)))
 }
 
 #[test]
 fn a_transaction_is_answered_once(rt: HostRuntime) -> Result<(), Fail> {
+    let alloc = rt.alloc();
     for (method, before, status, reason, code, what) in &REPLIES {
-        let found = replied(&rt, rt.alloc(), method, *before, *status, reason.as_bytes())?;
+        let b = request(alloc, method, b"")?;
+        let found = replied(&rt, alloc, b.as_slice(), *before, *status, reason.as_bytes())?;
         assert_eq!(rt; found, (*code, *what), "{method} {before:?} {status} {reason:?}");
     }
     Ok(())
@@ -102,9 +103,10 @@ const RESPONSE: &str =
 fn a_response_of_a_transaction_has_at_most_8192_bytes(rt: HostRuntime) -> Result<(), Fail> {
     let alloc = rt.alloc();
     let room = 8192 - RESPONSE.len();
+    let b = request(alloc, "INVITE", b"")?;
     for (bytes, code, what) in &[(room, 1, Decided::Final), (room + 1, -3, Decided::Nothing)] {
         let reason = vec![in alloc; b'a'; *bytes]?;
-        let found = replied(&rt, alloc, "INVITE", Before::Nothing, 200, reason.as_slice())?;
+        let found = replied(&rt, alloc, b.as_slice(), Before::Nothing, 200, reason.as_slice())?;
         assert_eq!(rt; found, (*code, *what), "{bytes} bytes");
     }
     Ok(())
