@@ -1,9 +1,7 @@
 //! What an answer from outside tells a run that waits for it.
-ghost use Rattle.std.specs.Prelude.{◌≡◌, IfOk, OnErr, Some, None};
+ghost use Rattle.std.specs.Prelude.{◌≡◌, IfOk, OnErr, Some, None, is_some, pos, negsuc, if◌then◌else◌};
 ghost use Rattle.dialogue.specs.Course.{Ends};
 ghost use Rattle.host_meaning.specs.Run.{RunState, Tells, Lacks};
-ghost use Rattle.host_meaning.specs.Transactions.{found};
-ghost use Rattle.host_meaning.specs.declared.ask.Heard.TheVariants.{Found as FoundAt};
 ghost use Rattle.host_meaning.specs.TableRows.{value_of_reply, written_by_reply, counted_by_reply};
 ghost use Rattle.script_host.specs.Asking.{as_heard};
 ghost use Rattle.script_host.specs.Rows.{left};
@@ -25,7 +23,7 @@ pub(crate) fn hear(wait: Wait, answer: Answer) -> Result<HostAnswer, NoMemory>
         (Wait::Written, Answer::Table(reply)) => write_told(&reply),
         (Wait::Counted, Answer::Table(reply)) => count_told(&reply),
         (Wait::Noted, Answer::Noted) => Some(HostAnswer::Code(1)),
-        (Wait::Found, Answer::Found(at)) => Some(HostAnswer::Code(find_told(at))),
+        (Wait::Found, Answer::Found(at)) => Some(find_told(at)),
         _ => None,
     };
     told.ok_or(NoMemory)
@@ -57,10 +55,13 @@ fn write_told(reply: &TabReply) -> Option<HostAnswer>
 }
 
 /// What `t_check_trans` returns: 1 where the transaction is held, else -1.
-fn find_told(at: Option<(u32, u64)>) -> i64
-    ensures { (s : RunState) → found (FoundAt at) s ≡ Tells (HostAnswer.Code result) s }
+fn find_told(at: Option<(u32, u64)>) -> HostAnswer
+    ensures { result ≡ HostAnswer.Code (if is_some at then pos 1 else negsuc 0) }
 {
-    if at.is_some() { 1 } else { -1 }
+    match at {
+        Some(_) => HostAnswer::Code(1),
+        None => HostAnswer::Code(-1),
+    }
 }
 
 /// What `sht_rm_name_re` and `sht_reset` return: 1.
