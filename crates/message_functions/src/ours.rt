@@ -15,10 +15,10 @@ use sip_fields::{Host, Scheme, Uri, read_uri};
 use sip_words::{Span, same_word};
 
 /// The port of a URI without one.
-const DEFAULT_PORT: u16 = 5060;
+pub const DEFAULT_PORT: u16 = 5060;
 
 /// The URI that this text is.
-fn uri_in(text: &[u8]) -> Option<Uri>
+pub fn uri_in(text: &[u8]) -> Option<Uri>
     ensures value { result ≡ uri_at text.now 0 }
     ensures between { IfSome result (IsUriBetween 0 (length text.now)) }
 {

@@ -14,7 +14,7 @@ use sip_words::Class;
 
 /// Whether the message is an ACK.
 #[tactic(auto, using(pv_table::proofs::PartsWithin::start_within))]
-fn is_ack(b: &[u8], m: &Message) -> bool
+pub fn is_ack(b: &[u8], m: &Message) -> bool
     requires { Reads b.now m.now }
     ensures { result ≡ is_ack (received b.now m.now) }
 {
@@ -25,7 +25,7 @@ fn is_ack(b: &[u8], m: &Message) -> bool
 }
 
 /// Whether the run has decided nothing.
-fn is_undecided(outcome: &Outcome) -> bool
+pub fn is_undecided(outcome: &Outcome) -> bool
     ensures { result ≡ is_undecided outcome.now }
 {
     matches!(outcome, Outcome::Undecided)
@@ -52,8 +52,8 @@ fn is_of_one_line(text: &[u8]) -> bool
     true
 }
 
-/// Whether the request can have a response with this code and reason.
-fn can_reply(
+/// Whether the request can have a response with this code and reason: it reads, and the reason is of one line.
+pub fn can_reply(
     b: &[u8],
     m: &Message,
     facts: &Facts,

@@ -1,4 +1,4 @@
-//! A copy of the facts of a run, for who may have to put them back.
+//! A copy of the facts of a run, for who may have to put them back, and of those of its parts that are sent on.
 ghost use Rattle.std.specs.Prelude.{◌≡◌, IfOk};
 
 use crate::facts::{Facts, Outcome, Relay, Response, Target};
@@ -74,7 +74,8 @@ impl Target {
     }
 }
 
-fn text_copy(alloc: Global, text: &Option<Text>) -> Result<Option<Text>, NoMemory>
+/// A text that may be absent.
+pub fn text_copy(alloc: Global, text: &Option<Text>) -> Result<Option<Text>, NoMemory>
     ensures { IfOk result (λ t. t ≡ text.now) }
 {
     match text {
@@ -83,7 +84,8 @@ fn text_copy(alloc: Global, text: &Option<Text>) -> Result<Option<Text>, NoMemor
     }
 }
 
-fn targets_copy(alloc: Global, targets: &[Target]) -> Result<Items<Target>, NoMemory>
+/// Targets, in their order.
+pub fn targets_copy(alloc: Global, targets: &[Target]) -> Result<Items<Target>, NoMemory>
     ensures { IfOk result (λ t. t ≡ targets.now) }
 {
     let mut copy = Items::new(alloc);
@@ -103,7 +105,8 @@ fn responses_copy(alloc: Global, responses: &[Response]) -> Result<Items<Respons
     Ok(copy)
 }
 
-fn edits_copy(alloc: Global, edits: &Edits) -> Result<Edits, NoMemory>
+/// Edits, in their order.
+pub fn edits_copy(alloc: Global, edits: &Edits) -> Result<Edits, NoMemory>
     ensures { IfOk result (λ e. e ≡ edits.now) }
 {
     let mut copy = Edits::new();

@@ -18,6 +18,7 @@ mod uri_parts;
 mod writing;
 
 pub use avps::{Avp, Avps};
+pub use copies::{edits_copy, targets_copy, text_copy};
 pub use facts::{
     ArmedBlocks, BLOCKS, Facts, FinalTimers, Outcome, Relay, Response, RunData, Standing, Target,
 };

@@ -44,6 +44,7 @@ never_lacks host_wait.Value s x e f = cc
 never_lacks host_wait.Written s x e f = cc
 never_lacks host_wait.Counted s x e f = cc
 never_lacks host_wait.Noted s x e f = cc
+never_lacks host_wait.Found s x e f = cc
 
 -- a run that had ended before has ended now
 pub still_ended : (old now : HostRun) (how : How) → now ≡ old → HasEnded old how → now.run.wait ≡ wait.Over how

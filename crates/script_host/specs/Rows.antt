@@ -5,6 +5,7 @@ use Rattle.pv_values.specs.declared.run.HostAnswer.TheVariants as told
 use Rattle.pv_table.specs.declared.facts.Facts.{Facts}
 use Rattle.host_meaning.specs.declared.ask.Heard.{Heard}
 use Rattle.host_meaning.specs.Run.{RunState, RowCourse, Tells}
+use Rattle.host_meaning.specs.Transactions.{found}
 use Rattle.host_meaning.specs.TableRows.{or_lacks, by_table, value_of_reply, written_by_reply, counted_by_reply, noted}
 use Rattle.script_host.specs.declared.row.Wait.{Wait}
 use Rattle.script_host.specs.declared.row.Wait.TheVariants as wait
@@ -19,6 +20,7 @@ left wait.Value s h = Ends (or_lacks (by_table value_of_reply h) s)
 left wait.Written s h = Ends (or_lacks (by_table written_by_reply h) s)
 left wait.Counted s h = Ends (or_lacks (by_table counted_by_reply h) s)
 left wait.Noted s h = Ends (or_lacks (noted h) s)
+left wait.Found s h = Ends (found h s)
 
 -- a row, or what is left of it, tells or asks this, and leaves this
 abbrev pub IsRow : RowCourse → Row → RunState → Type 0

@@ -1,5 +1,5 @@
 //! What an answer from outside tells a run that waits for it.
-ghost use Rattle.std.specs.Prelude.{◌≡◌, IfOk, OnErr, Some, None};
+ghost use Rattle.std.specs.Prelude.{◌≡◌, IfOk, OnErr, Some, None, is_some, pos, negsuc, if◌then◌else◌};
 ghost use Rattle.dialogue.specs.Course.{Ends};
 ghost use Rattle.host_meaning.specs.Run.{RunState, Tells, Lacks};
 ghost use Rattle.host_meaning.specs.TableRows.{value_of_reply, written_by_reply, counted_by_reply};
@@ -23,6 +23,7 @@ pub(crate) fn hear(wait: Wait, answer: Answer) -> Result<HostAnswer, NoMemory>
         (Wait::Written, Answer::Table(reply)) => write_told(&reply),
         (Wait::Counted, Answer::Table(reply)) => count_told(&reply),
         (Wait::Noted, Answer::Noted) => Some(HostAnswer::Code(1)),
+        (Wait::Found, Answer::Found(at)) => Some(find_told(at)),
         _ => None,
     };
     told.ok_or(NoMemory)
@@ -50,6 +51,16 @@ fn write_told(reply: &TabReply) -> Option<HostAnswer>
             Some(HostAnswer::Written)
         }
         TabReply::NotNumber | TabReply::Value(_) | TabReply::Count(_) => None,
+    }
+}
+
+/// What `t_check_trans` returns: 1 where the transaction is held, else -1.
+fn find_told(at: Option<(u32, u64)>) -> HostAnswer
+    ensures { result ≡ HostAnswer.Code (if is_some at then pos 1 else negsuc 0) }
+{
+    match at {
+        Some(_) => HostAnswer::Code(1),
+        None => HostAnswer::Code(-1),
     }
 }
 

@@ -3,6 +3,7 @@ ghost use Rattle.std.specs.Prelude.{◌≡◌, IfOk, OnErr, IsTrue};
 ghost use Rattle.pv_values.specs.Kinds.{name_of};
 ghost use Rattle.host_meaning.specs.Run.{argument, received};
 ghost use Rattle.host_meaning.specs.Rows.{has_started, call_row, call_over, call_without};
+ghost use Rattle.host_meaning.specs.Transactions.{t_check_trans};
 ghost use Rattle.host_meaning.specs.TableRows.{xlog, asks_table, counted_by_reply};
 ghost use Rattle.sip_msg.specs.Table.{Reads};
 ghost use Rattle.script_host.specs.Lending.{around_of, IsRead};
@@ -17,6 +18,8 @@ use message_functions::{
     mf_process_maxfwd_header, record_route, remove_hf, sl_send_reply,
 };
 use pv_table::Facts;
+use sip_msg::Message;
+use transaction_functions::{has_no_transaction, t_newtran, t_reply, t_set_fr};
 use pv_values::{Func, FuncName, HostAnswer, Text, Val, as_text};
 use std::alloc::{AllocError as NoMemory, Global};
 
@@ -113,6 +116,17 @@ fn call_over(
             let code = loose_route(alloc, b, m, facts, lent.settings, &loaded.parameters)?;
             Ok(Row::code(code))
         }
+        Func::TNewtran => Ok(Row::code(t_newtran(b, m, facts))),
+        Func::TReply(status) => {
+            let reason = argument(alloc, values, 0)?;
+            Ok(Row::code(t_reply(b, m, facts, *status, reason, room)?))
+        }
+        Func::TSetFr => {
+            let invite = argument(alloc, values, 0)?;
+            let other = argument(alloc, values, 1)?;
+            Ok(Row::code(t_set_fr(facts, invite.bytes(), other.bytes())))
+        }
+        Func::TCheckTrans => Ok(find(b, m)),
         Func::Xlog => log(alloc, values),
         Func::ShtRmNameRe(table, pattern) => Ok(counted(*table, TabOp::RemoveMatching(*pattern))),
         Func::ShtReset(table) => Ok(counted(*table, TabOp::Reset)),
@@ -156,6 +170,18 @@ fn call_without(
         | Func::TCheckStatus(_)
         | Func::TSuspend
         | Func::TContinue(_) => unreachable!(),
+    }
+}
+
+/// The ask of `t_check_trans` for an ACK or a CANCEL; -1 for any other message.
+fn find(b: &[u8], m: &Message) -> Row
+    requires { Reads b.now m.now }
+    ensures { (facts : Facts) → IsRowOf (t_check_trans (received b.now m.now)) facts result facts }
+{
+    if has_no_transaction(b, m) {
+        Row::Asks(Ask::Find, Wait::Found)
+    } else {
+        Row::code(-1)
     }
 }
 

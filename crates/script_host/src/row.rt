@@ -37,6 +37,8 @@ pub enum Wait {
     Counted,
     /// A text for the log.
     Noted,
+    /// The transaction of an INVITE.
+    Found,
 }
 
 impl Row {
