@@ -1,15 +1,21 @@
 //! Laws of the rows. Each function states a law, and does nothing when it is called.
-ghost use Rattle.std.specs.Prelude.{◌≡◌, ◌∷◌, [], codes, ℕ, pos};
+ghost use Rattle.std.specs.Prelude.{◌≡◌, ◌∷◌, [], codes, ℕ, pos, Some, false};
 ghost use Rattle.dialogue.specs.Course.{Ends, Asks};
 ghost use Rattle.claim_words.specs.declared.ClaimEnd.TheVariants.{Won};
 ghost use Rattle.host_meaning.specs.declared.ask.Asked.TheVariants as ask;
 ghost use Rattle.host_meaning.specs.declared.ask.Heard.TheVariants as heard;
 ghost use Rattle.host_meaning.specs.declared.ask.JobOrder.TheVariants as order;
 ghost use Rattle.host_meaning.specs.Suspending.{claimed, continued};
+ghost use Rattle.host_meaning.specs.Transactions.{has_no_transaction};
+ghost use Rattle.host_meaning.specs.Funds.{EndsAlways, IsFundedEnd, RespondsProvisionally};
+ghost use Rattle.cfg_tree.specs.declared.script.Script.{Script};
+ghost use Rattle.pv_table.specs.declared.facts.Facts.{Facts};
+ghost use Rattle.pv_table.specs.declared.facts.Outcome.TheVariants.{Undecided};
 ghost use Rattle.pv_values.specs.declared.run.HostAnswer.{HostAnswer as Answered};
 ghost use Rattle.pv_values.specs.declared.run.HostAsk.{HostAsk as Wanted};
-ghost use Rattle.host_meaning.specs.Run.{Around, RunState, Tells, code, kept};
+ghost use Rattle.host_meaning.specs.Run.{Received, Around, RunState, Tells, code, kept};
 ghost use Rattle.host_meaning.specs.Rows.{row};
+ghost use Rattle.host_meaning.specs.Host.{run_of};
 ghost use Rattle.host_meaning.specs.Headers.{between_bars};
 
 /// A row that asks nothing outside leaves the blocks that the run holds and the suspension that it opened last as they
@@ -29,4 +35,20 @@ pub fn a_list_of_methods()
 pub fn a_won_claim_is_ordered_at_once()
     ensures { (slot serial route place : ℕ) (s : RunState) → claimed slot serial route s (heard.Claim (Won place))
         ≡ Asks (ask.Post (order.Continue slot serial route)) (λ h. code (pos 1) (continued s)) }
+{}
+
+/// A run over a request that has a transaction, so one that isn't an ACK or a CANCEL, begins with nothing decided and no
+/// block. Where it relays the request, it ends with at least two blocks for each of its targets, and its targets with the
+/// branches that there were before are at most twelve (RFC 3261, section 16.6). So it is whatever is answered, for every
+/// script.
+pub fn a_run_that_relays_holds_two_blocks_for_each_target()
+    ensures { (script : Script) (block : ℕ) (a : Around) (r : Received) (f : Facts) → a.received ≡ Some r → has_no_transaction r ≡ false
+        → f.outcome ≡ Undecided → EndsAlways (IsFundedEnd f.branches) (run_of script block a (record { facts = f; blocks = 0 })) }
+{}
+
+/// Where such a run begins with no response, every response that it decides and that isn't its outcome is provisional
+/// (RFC 3261, section 16.7): a final one is the outcome.
+pub fn a_run_responds_provisionally_beside_its_outcome()
+    ensures { (script : Script) (block : ℕ) (a : Around) (r : Received) (f : Facts) → a.received ≡ Some r → has_no_transaction r ≡ false
+        → f.outcome ≡ Undecided → f.responses ≡ [] → EndsAlways RespondsProvisionally (run_of script block a (record { facts = f; blocks = 0 })) }
 {}
