@@ -1,8 +1,8 @@
 -- A run over a request with a transaction pays for what it relays, and responds provisionally beside its outcome.
-use Rattle.std.proofs.Common.{◌≡◌, ℕ, Bool, true, false, List, [], ◌∷◌, ◌++◌, ◌∙◌, ◌<◌, ◌≤◌, ◌*◌, ◌+◌, length, refl, sym, ap, subst, Some, arith, true≢false}
+use Rattle.std.proofs.Common.{◌≡◌, ℕ, Bool, true, false, List, [], ◌∷◌, ◌++◌, ◌∙◌, ◌<◌, ◌≤◌, ◌+◌, length, refl, sym, subst, Some, arith, true≢false}
 use Rattle.std.proofs.lemmas.Bool.{or_parts, not-false}
 use Rattle.std.proofs.lemmas.Bool.Decides.{nat_tests}
-use Rattle.std.specs.Prelude.{Option, None, if◌then◌else◌, ◌||◌, not, ℤ, pos, negsuc, zero, suc, nat_lt, is_none, nat_le, ◌&&◌, ◌==◌}
+use Rattle.std.specs.Prelude.{Option, None, if◌then◌else◌, ◌||◌, not, ℤ, pos, zero, suc, nat_lt, is_none, nat_le, ◌&&◌, ◌==◌}
 use Rattle.dialogue.specs.Course.{Course, Ends, Asks, Takes, and_then}
 use Rattle.dialogue.specs.Talk.{Ends as RunEnds, Asks as RunAsks}
 use Rattle.cfg_tree.specs.declared.script.Script.{Script}
@@ -35,12 +35,12 @@ use Rattle.host_meaning.specs.Responses.{is_undecided, is_ack, sl_send_reply, re
 use Rattle.host_meaning.specs.Headers.{yes_or_no, fields_removed, left_named, append_hf, hops_code, record_route, all_fit, field_cuts, before_empty_line, is_header_text, fits, fits_reply, record_route_place, record_route_line}
 use Rattle.host_meaning.specs.Routing.{loose_route, again, first_call, gone, Way, way_edits, route_fields, route_values, way}
 use Rattle.host_meaning.specs.Transactions.{is_cancel, has_no_transaction, with_transaction, t_newtran, replied, t_reply, trying, with_trying, timers_set, found, t_check_trans, refuses_response, is_invite, with_response, with_final_response}
-use Rattle.host_meaning.specs.Relaying.{first_target, most_branches, appended, append_branch, relay_of, targets_of, relay_called, relayed, gives, with_block, takes_blocks, blocks_wanted, makes_too_many, relay_request, t_relay, target_address, has_no_hop, too_many_hops, has_destination, fits_first}
-use Rattle.host_meaning.specs.Suspending.{opened, t_suspend, claim_heard, claimed, claims, claims_numbered, t_continue, refuses_suspension, has_continued_all}
+use Rattle.host_meaning.specs.Relaying.{first_target, most_branches, appended, append_branch, relay_called, relayed, gives, with_block, takes_blocks, blocks_wanted, makes_too_many, relay_request, t_relay, target_address, has_no_hop, too_many_hops, has_destination, fits_first}
+use Rattle.host_meaning.specs.Suspending.{opened, t_suspend, claim_heard, claimed, claims_numbered, t_continue, refuses_suspension, has_continued_all}
 use Rattle.host_meaning.specs.TableRows.{or_lacks, limit_written}
-use Rattle.host_meaning.specs.Rows.{row, read_row, write_row, call_row, called, call_over, has_started}
-use Rattle.host_meaning.specs.Host.{HostEnd, Finished, RanOut, HostCourse, Onward, resumed, by_row, host, at_start, run_of}
-use Rattle.host_meaning.specs.Funds.{EndsAlways, IsFundedOutcome, IsFunded, IsFundedEnd, AreProvisional, RespondsProvisionally}
+use Rattle.host_meaning.specs.Rows.{row, read_row, write_row, called, call_over, has_started}
+use Rattle.host_meaning.specs.Host.{HostEnd, Finished, RanOut, Onward, resumed, by_row, host, at_start, run_of}
+use Rattle.host_meaning.specs.Funds.{EndsAlways, IsFundedOutcome, IsFunded, IsFundedRow, IsFundedEnd, AreProvisional, RespondsProvisionally}
 
 -- ---- courses
 
@@ -230,10 +230,10 @@ module _ (n : ℕ) (Fine : List Response → Type 0) (grows : (rs : List Respons
       (if_by (not (has_destination a s.facts) || makes_too_many s.facts) _ _ (λ t. p) (λ few.
       if_sure (not (fits_first a r s.facts)) _ _ p
       (takes_sure (blocks_wanted s.facts) 0 s (λ t. code (pos 1) (relayed r t)) p (λ b paid.
-          relayed_sound r s b
-          (undecided n s.facts.outcome s.facts.branches s.blocks
-          (not-false _ (or_parts (not (is_undecided s.facts.outcome)) _ (or_parts (not (is_undecided s.facts.outcome) || s.facts.standing.is_answered) _ still).0).0) p.0)
-          (or_parts (not (has_destination a s.facts)) (makes_too_many s.facts) few).1 paid p.1))))))
+      relayed_sound r s b
+      (undecided n s.facts.outcome s.facts.branches s.blocks
+      (not-false _ (or_parts (not (is_undecided s.facts.outcome)) _ (or_parts (not (is_undecided s.facts.outcome) || s.facts.standing.is_answered) _ still).0).0) p.0)
+      (or_parts (not (has_destination a s.facts)) (makes_too_many s.facts) few).1 paid p.1))))))
 
   -- ---- suspending
 
@@ -363,6 +363,10 @@ module _ (n : ℕ) (Fine : List Response → Type 0) (grows : (rs : List Respons
     run_sure : (script : Script) (block : ℕ) (s : RunState) → Sound s → EndsAlways SoundEnd (run_of script block a s)
     run_sure script block s p = (tt, host_sure (dialogue script block (at_start script)) s p)
 
+  weaker_row : (end : RowEnd) → SoundRow end → IsFundedRow n end
+  weaker_row (Tells answer s) p = p.0
+  weaker_row (Lacks s) p = tt
+
   weaker_funded : (end : HostEnd) → SoundEnd end → IsFundedEnd n end
   weaker_funded (Finished s how) p = p.0
   weaker_funded (RanOut kept) p = tt
@@ -376,12 +380,22 @@ weaker_fine n (RanOut kept) p = tt
 begun : (n : ℕ) (o : Outcome) (blocks : ℕ) → o ≡ Undecided → IsFundedOutcome n o n blocks
 begun n o blocks e = subst (λ x. IsFundedOutcome n x n blocks) (sym e) refl
 
+-- nothing is asked of the responses
+abbrev AnyResponses : List Response → Type 0
+AnyResponses rs = Unit {0}
+
+any_grows : (rs : List Response) (r : Response) → AnyResponses rs → r.code < 200 → AnyResponses (rs ++ r ∷ [])
+any_grows rs r p l = tt
+
+pub called_funded : (n : ℕ) (a : Around) (r : Received) (f : Func) (values : List Val) (s : RunState) → has_no_transaction r ≡ false → IsFunded n s → EndsAlways (IsFundedRow n) (called a (Some r) f values s)
+called_funded n a r f values s own p =
+    always_weaker (SoundRow n AnyResponses any_grows) (IsFundedRow n) (weaker_row n AnyResponses any_grows) (called a (Some r) f values s)
+    (over_sure n AnyResponses any_grows a r own f values s (p, tt))
+
 pub relays_funded : (script : Script) (block : ℕ) (a : Around) (r : Received) (f : Facts) → a.received ≡ Some r → has_no_transaction r ≡ false → f.outcome ≡ Undecided → EndsAlways (IsFundedEnd f.branches) (run_of script block a (record { facts = f; blocks = 0 }))
 relays_funded script block a r f over own still =
-    let fine : List Response → Type 0 = λ rs. Unit {0} in
-    let grows : (rs : List Response) (r : Response) → fine rs → r.code < 200 → fine (rs ++ r ∷ []) = λ rs r p l. tt in
-    always_weaker (SoundEnd f.branches fine grows) (IsFundedEnd f.branches) (weaker_funded f.branches fine grows) (run_of script block a (record { facts = f; blocks = 0 }))
-    (run_sure f.branches fine grows a r over own script block (record { facts = f; blocks = 0 }) (begun f.branches f.outcome 0 still, tt))
+    always_weaker (SoundEnd f.branches AnyResponses any_grows) (IsFundedEnd f.branches) (weaker_funded f.branches AnyResponses any_grows) (run_of script block a (record { facts = f; blocks = 0 }))
+    (run_sure f.branches AnyResponses any_grows a r over own script block (record { facts = f; blocks = 0 }) (begun f.branches f.outcome 0 still, tt))
 
 pub responds_provisionally : (script : Script) (block : ℕ) (a : Around) (r : Received) (f : Facts) → a.received ≡ Some r → has_no_transaction r ≡ false → f.outcome ≡ Undecided → f.responses ≡ [] → EndsAlways RespondsProvisionally (run_of script block a (record { facts = f; blocks = 0 }))
 responds_provisionally script block a r f over own still none =

@@ -7,7 +7,7 @@ use Rattle.pv_table.specs.declared.facts.Outcome.TheVariants.{Undecided, Statele
 use Rattle.pv_table.specs.declared.facts.Response.{Response}
 use Rattle.host_meaning.specs.declared.ask.Asked.{Asked}
 use Rattle.host_meaning.specs.declared.ask.Heard.{Heard}
-use Rattle.host_meaning.specs.Run.{RunState}
+use Rattle.host_meaning.specs.Run.{RunState, RowEnd, Tells, Lacks}
 use Rattle.host_meaning.specs.Relaying.{most_branches, targets_of}
 use Rattle.host_meaning.specs.Host.{HostEnd, Finished, RanOut}
 
@@ -29,6 +29,11 @@ IsFundedOutcome before Suspended now blocks = Unit {0}
 
 abbrev pub IsFunded : ℕ → RunState → Type 0
 IsFunded before s = IsFundedOutcome before s.facts.outcome s.facts.branches s.blocks
+
+-- the same of a row that has ended; one that finds no memory ends the run
+abbrev pub IsFundedRow : ℕ → RowEnd → Type 0
+IsFundedRow before (Tells answer s) = IsFunded before s
+IsFundedRow before (Lacks s) = Unit {0}
 
 -- the same of a run that has ended; one that ran out of memory has decided nothing
 abbrev pub IsFundedEnd : ℕ → HostEnd → Type 0

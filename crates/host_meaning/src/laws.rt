@@ -1,5 +1,5 @@
 //! Laws of the rows. Each function states a law, and does nothing when it is called.
-ghost use Rattle.std.specs.Prelude.{◌≡◌, ◌∷◌, [], codes, ℕ, pos, Some, false};
+ghost use Rattle.std.specs.Prelude.{◌≡◌, ◌∷◌, [], codes, ℕ, pos, List, Some, false};
 ghost use Rattle.dialogue.specs.Course.{Ends, Asks};
 ghost use Rattle.claim_words.specs.declared.ClaimEnd.TheVariants.{Won};
 ghost use Rattle.host_meaning.specs.declared.ask.Asked.TheVariants as ask;
@@ -7,14 +7,16 @@ ghost use Rattle.host_meaning.specs.declared.ask.Heard.TheVariants as heard;
 ghost use Rattle.host_meaning.specs.declared.ask.JobOrder.TheVariants as order;
 ghost use Rattle.host_meaning.specs.Suspending.{claimed, continued};
 ghost use Rattle.host_meaning.specs.Transactions.{has_no_transaction};
-ghost use Rattle.host_meaning.specs.Funds.{EndsAlways, IsFundedEnd, RespondsProvisionally};
+ghost use Rattle.host_meaning.specs.Funds.{EndsAlways, IsFunded, IsFundedRow, IsFundedEnd, RespondsProvisionally};
 ghost use Rattle.cfg_tree.specs.declared.script.Script.{Script};
+ghost use Rattle.pv_values.specs.declared.function.Func.{Func};
+ghost use Rattle.pv_values.specs.declared.value.Val.{Val};
 ghost use Rattle.pv_table.specs.declared.facts.Facts.{Facts};
 ghost use Rattle.pv_table.specs.declared.facts.Outcome.TheVariants.{Undecided};
 ghost use Rattle.pv_values.specs.declared.run.HostAnswer.{HostAnswer as Answered};
 ghost use Rattle.pv_values.specs.declared.run.HostAsk.{HostAsk as Wanted};
 ghost use Rattle.host_meaning.specs.Run.{Received, Around, RunState, Tells, code, kept};
-ghost use Rattle.host_meaning.specs.Rows.{row};
+ghost use Rattle.host_meaning.specs.Rows.{row, called};
 ghost use Rattle.host_meaning.specs.Host.{run_of};
 ghost use Rattle.host_meaning.specs.Headers.{between_bars};
 
@@ -40,9 +42,11 @@ pub fn a_won_claim_is_ordered_at_once()
 /// A run over a request that has a transaction, so one that isn't an ACK or a CANCEL, begins with nothing decided and no
 /// block. Where it relays the request, it ends with at least two blocks for each of its targets, and its targets with the
 /// branches that there were before are at most twelve (RFC 3261, section 16.6). So it is whatever is answered, for every
-/// script.
+/// script (`run`), and each function keeps it as its row is written, whether or not it has started (`row`).
 pub fn a_run_that_relays_holds_two_blocks_for_each_target()
-    ensures { (script : Script) (block : ℕ) (a : Around) (r : Received) (f : Facts) → a.received ≡ Some r → has_no_transaction r ≡ false
+    ensures row { (n : ℕ) (a : Around) (r : Received) (f : Func) (values : List Val) (s : RunState) → has_no_transaction r ≡ false → IsFunded n s
+        → EndsAlways (IsFundedRow n) (called a (Some r) f values s) }
+    ensures run { (script : Script) (block : ℕ) (a : Around) (r : Received) (f : Facts) → a.received ≡ Some r → has_no_transaction r ≡ false
         → f.outcome ≡ Undecided → EndsAlways (IsFundedEnd f.branches) (run_of script block a (record { facts = f; blocks = 0 })) }
 {}
 
