@@ -15,20 +15,21 @@ use Rattle.pv_values.specs.declared.variable.PvUse.TheVariants as pv
 use Rattle.pv_values.specs.Values.{number_of, text_of}
 use Rattle.pv_values.specs.Kinds.{is_written_in, stands_in, name_of}
 use Rattle.sip_scan.specs.declared.field.HeaderSpan.{HeaderSpan}
+use Rattle.sip_build.specs.Reply.{reply_text}
 use Rattle.msg_edits.specs.declared.parts.Edit.TheVariants.{Insert}
 use Rattle.pv_table.specs.declared.facts.Facts.{Facts}
 use Rattle.pv_table.specs.declared.facts.Target.{Target}
 use Rattle.pv_table.specs.Writing.{written, assigned}
 use Rattle.host_meaning.specs.Run.{Received, Around, RunState, kept, Tells, Lacks, RowCourse, code, argument, is_readable, with_facts}
 use Rattle.host_meaning.specs.Responses.{is_undecided, is_ack, sl_send_reply, refuses_reply, can_reply}
-use Rattle.host_meaning.specs.Headers.{yes_or_no, fields_removed, remove_hf, left_named, append_hf, is_header_text, fits, all_fit, field_cuts, fits_reply, before_empty_line, hops_code, record_route, record_route_place, record_route_line}
+use Rattle.host_meaning.specs.Headers.{yes_or_no, is_method, has_totag, is_present_hf, fields_removed, remove_hf, left_named, append_hf, is_header_text, fits, all_fit, field_cuts, fits_reply, before_empty_line, hops_code, mf_process_maxfwd_header, record_route, record_route_place, record_route_line}
 use Rattle.host_meaning.specs.Routing.{loose_route, again, first_call, gone, Way, way, way_edits, route_fields, route_values}
 use Rattle.host_meaning.specs.Transactions.{is_invite, has_no_transaction, with_transaction, t_newtran, with_response, with_final_response, replied, refuses_response, t_reply, trying, with_trying, timers_set, t_check_trans}
 use Rattle.host_meaning.specs.Relaying.{target_address, first_target, most_branches, appended, append_branch, relay_of, loose_ack, has_no_hop, relay_called, relayed, takes_blocks, fits_first, blocks_wanted, makes_too_many, has_destination, relay_request, relay_ack, relay_cancel, t_relay}
 use Rattle.host_meaning.specs.Transactions.{is_cancel}
 use Rattle.host_meaning.specs.Suspending.{refuses_suspension, t_suspend, has_continued_all, claims, claims_numbered, t_continue}
 use Rattle.host_meaning.specs.TableRows.{limit_written}
-use Rattle.host_meaning.specs.Rows.{row, has_started, read_row, write_row, called, call_over, call_without}
+use Rattle.host_meaning.specs.Rows.{row, has_started, read_row, write_row, call_row, called, call_over, call_without}
 
 abbrev pub Keeps : RunState → RowCourse → Type 0
 Keeps s (Ends (Tells answer t)) = kept t ≡ kept s

@@ -1,5 +1,5 @@
 -- Functions that look at a message's method, tags and header fields, and that edit its fields.
-use Rattle.std.specs.Prelude.{ℕ, ◌-◌, ◌==◌, pos, negsuc, Bool, true, false, not, ◌&&◌, List, [], ◌∷◌, ◌++◌, length, map, Option, Some, None, is_some, max, min, nat_lt, if◌then◌else◌, codes}
+use Rattle.std.specs.Prelude.{ℕ, ◌+◌, ◌-◌, ◌==◌, pos, negsuc, Bool, true, false, not, ◌&&◌, List, [], ◌∷◌, ◌++◌, length, map, Option, Some, None, is_some, max, min, nat_lt, if◌then◌else◌, codes}
 use Rattle.std.specs.List.{find, filter, list_any, last_or}
 use Rattle.std.specs.Str.{bytes_eq}
 use Rattle.numerals.specs.Numerals.{socket}

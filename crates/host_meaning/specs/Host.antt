@@ -1,5 +1,5 @@
 -- What a run of a block does: the script's meaning, each ask of which is answered by its row.
-use Rattle.std.specs.Prelude.{ℕ, pos, replicate}
+use Rattle.std.specs.Prelude.{ℕ, pos, List, replicate}
 use Rattle.dialogue.specs.Course.{Course, Ends, Asks, Takes, and_then}
 use Rattle.dialogue.specs.Talk.{Ends as RunEnds, Asks as RunAsks}
 use Rattle.pv_values.specs.declared.run.Env.{Env}

@@ -1,5 +1,5 @@
 -- Functions that give a request its targets and send it on: append_branch() and t_relay() (RFC 3261, sections 16.5 and 16.6).
-use Rattle.std.specs.Prelude.{ℕ, zero, suc, ◌+◌, ◌-◌, ◌*◌, ◌==◌, pos, negsuc, Bool, true, false, not, ◌||◌, List, [], ◌∷◌, ◌++◌, length, Option, Some, None, is_none, is_some, nat_le, nat_lt, unwrap_or, if◌then◌else◌, codes}
+use Rattle.std.specs.Prelude.{ℕ, zero, suc, ◌+◌, ◌-◌, ◌*◌, ◌==◌, pos, negsuc, Bool, true, false, not, ◌&&◌, ◌||◌, List, [], ◌∷◌, ◌++◌, length, Option, Some, None, is_none, is_some, nat_le, nat_lt, unwrap_or, if◌then◌else◌, codes}
 use Rattle.std.specs.List.{find, list_any}
 use Rattle.std.specs.Str.{str_eq_ignore_ascii_case}
 use Rattle.dialogue.specs.Course.{Ends, Asks}
@@ -27,9 +27,9 @@ use Rattle.host_meaning.specs.declared.ask.Heard.{Heard}
 use Rattle.host_meaning.specs.declared.ask.Heard.TheVariants as heard
 use Rattle.host_meaning.specs.declared.ask.JobOrder.TheVariants as order
 use Rattle.host_meaning.specs.declared.settings.HostAddress.{HostAddress}
-use Rattle.host_meaning.specs.Run.{Received, Around, RunState, RowCourse, Lacks, code, is_readable, with_facts}
+use Rattle.host_meaning.specs.Run.{Received, Around, RunState, RowCourse, RowEnd, Lacks, code, is_readable, with_facts}
 use Rattle.host_meaning.specs.Responses.{is_undecided, is_ack}
-use Rattle.host_meaning.specs.Transactions.{is_cancel, with_transaction, with_final_response, with_trying}
+use Rattle.host_meaning.specs.Transactions.{is_cancel, with_transaction, with_response, with_final_response, with_trying}
 
 -- ---- destinations
 

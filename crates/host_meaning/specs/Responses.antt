@@ -1,8 +1,9 @@
 -- Functions that respond without a transaction.
-use Rattle.std.specs.Prelude.{ℕ, pos, negsuc, Bool, true, false, not, ◌&&◌, ◌||◌, List, if◌then◌else◌, codes}
+use Rattle.std.specs.Prelude.{ℕ, pos, negsuc, Bool, true, false, not, ◌&&◌, ◌||◌, List, Option, Some, None, if◌then◌else◌, slice_range, codes}
 use Rattle.std.specs.List.{list_all}
 use Rattle.std.specs.Str.{bytes_eq}
 use Rattle.sip_scan.specs.Lines.{is_plain}
+use Rattle.sip_msg.specs.declared.message.Message.{Message}
 use Rattle.sip_keys.specs.Keys.{method_in}
 use Rattle.sip_build.specs.Reply.{reply_text}
 use Rattle.pv_table.specs.declared.facts.Facts.{Facts}

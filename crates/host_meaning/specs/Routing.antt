@@ -1,5 +1,5 @@
 -- Route processing: loose_route() (RFC 3261, sections 16.4 and 16.12).
-use Rattle.std.specs.Prelude.{ℕ, ℤ, zero, suc, ◌-◌, ◌==◌, pos, negsuc, Bool, not, ◌&&◌, List, [], ◌∷◌, ◌++◌, length, take, map, Option, Some, None, if◌then◌else◌, codes}
+use Rattle.std.specs.Prelude.{ℕ, ℤ, zero, suc, ◌+◌, ◌-◌, ◌==◌, pos, negsuc, Bool, true, false, not, ◌&&◌, List, [], ◌∷◌, ◌++◌, length, take, map, Option, Some, None, if◌then◌else◌, codes}
 use Rattle.std.specs.List.{filter, flat_map, list_any, list_all, last_or}
 use Rattle.sip_words.specs.declared.Span.{Span}
 use Rattle.sip_words.specs.Spans.{span}
@@ -9,7 +9,7 @@ use Rattle.sip_scan.specs.declared.field.HeaderSpan.{HeaderSpan}
 use Rattle.sip_scan.specs.declared.field.Kind.TheVariants as kind
 use Rattle.sip_msg.specs.Fields.{is_of}
 use Rattle.msg_edits.specs.declared.parts.Edit.{Edit}
-use Rattle.msg_edits.specs.declared.parts.Edit.TheVariants.{Cut}
+use Rattle.msg_edits.specs.declared.parts.Edit.TheVariants.{Cut, Insert}
 use Rattle.pv_table.specs.UriParts.{bytes_at}
 use Rattle.host_meaning.specs.declared.routing.RouteValue.{RouteValue}
 use Rattle.host_meaning.specs.Run.{Received, Around, RunState, RowCourse, code, with_facts}

@@ -1,5 +1,5 @@
 -- The rows: what each variable and each function does where a run asks for it.
-use Rattle.std.specs.Prelude.{negsuc, Bool, true, false, ◌&&◌, List, Option, Some, None, if◌then◌else◌}
+use Rattle.std.specs.Prelude.{ℕ, ℤ, pos, negsuc, Bool, true, false, ◌&&◌, List, Option, Some, None, if◌then◌else◌}
 use Rattle.dialogue.specs.Course.{Ends}
 use Rattle.pv_values.specs.declared.run.HostAsk.{HostAsk}
 use Rattle.pv_values.specs.declared.run.HostAsk.TheVariants.{Read, Write, Call}

@@ -1,7 +1,7 @@
 -- What a run has, and what a row makes of it.
-use Rattle.std.specs.Prelude.{◌≡◌, ℕ, ℤ, Bool, List, Option, is_none}
+use Rattle.std.specs.Prelude.{◌≡◌, ℕ, ℤ, Bool, true, false, List, Option, Some, None, is_none}
 use Rattle.std.specs.Prelude.{slice_index_or}
-use Rattle.dialogue.specs.Course.{Course, Ends}
+use Rattle.dialogue.specs.Course.{Course, Ends, Asks}
 use Rattle.pv_values.specs.declared.run.HostAnswer.{HostAnswer}
 use Rattle.pv_values.specs.declared.run.HostAnswer.TheVariants as told
 use Rattle.pv_values.specs.declared.value.Val.{Val}

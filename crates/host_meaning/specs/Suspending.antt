@@ -1,5 +1,5 @@
 -- Functions that let a request wait, and that go on with one that waits: t_suspend() and t_continue().
-use Rattle.std.specs.Prelude.{ℕ, ℤ, ◌+◌, pos, negsuc, Bool, true, not, ◌&&◌, ◌||◌, List, Option, Some, nat_le, nat_lt, if◌then◌else◌}
+use Rattle.std.specs.Prelude.{ℕ, ℤ, ◌+◌, pos, negsuc, Bool, true, not, ◌&&◌, ◌||◌, List, Option, Some, None, nat_le, nat_lt, if◌then◌else◌}
 use Rattle.dialogue.specs.Course.{Ends, Asks}
 use Rattle.pv_values.specs.declared.value.Val.{Val}
 use Rattle.pv_values.specs.Numbers.{number_in}

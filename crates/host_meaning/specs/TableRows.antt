@@ -1,13 +1,16 @@
 -- Variables and functions that ask a table, and the log.
 use Rattle.std.specs.Prelude.{ℕ, ℤ, pos, List, Option, Some, None}
-use Rattle.dialogue.specs.Course.{Ends, Asks}
+use Rattle.dialogue.specs.Course.{Course, Ends, Asks}
 use Rattle.pv_values.specs.declared.run.HostAnswer.{HostAnswer}
 use Rattle.pv_values.specs.declared.run.HostAnswer.TheVariants as told
+use Rattle.pv_values.specs.declared.value.Val.{Val}
 use Rattle.pv_values.specs.declared.value.Val.TheVariants.{Null}
+use Rattle.pv_values.specs.Values.{number_of}
 use Rattle.ht_core.specs.declared.operation.TabOp.{TabOp}
 use Rattle.ht_core.specs.declared.operation.TabOp.TheVariants as op
 use Rattle.ht_core.specs.declared.operation.TabReply.{TabReply}
 use Rattle.ht_core.specs.declared.operation.TabReply.TheVariants as reply
+use Rattle.host_meaning.specs.declared.ask.Asked.{Asked}
 use Rattle.host_meaning.specs.declared.ask.Asked.TheVariants as ask
 use Rattle.host_meaning.specs.declared.ask.Heard.{Heard}
 use Rattle.host_meaning.specs.declared.ask.Heard.TheVariants as heard
