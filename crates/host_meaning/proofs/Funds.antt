@@ -35,12 +35,12 @@ use Rattle.host_meaning.specs.Responses.{is_undecided, is_ack, sl_send_reply, re
 use Rattle.host_meaning.specs.Headers.{yes_or_no, fields_removed, left_named, append_hf, hops_code, record_route, all_fit, field_cuts, before_empty_line, is_header_text, fits, fits_reply, record_route_place, record_route_line}
 use Rattle.host_meaning.specs.Routing.{loose_route, again, first_call, gone, Way, way_edits, route_fields, route_values, way}
 use Rattle.host_meaning.specs.Transactions.{is_cancel, has_no_transaction, with_transaction, t_newtran, replied, t_reply, trying, with_trying, timers_set, found, t_check_trans, refuses_response, is_invite, with_response, with_final_response}
-use Rattle.host_meaning.specs.Relaying.{first_target, most_branches, appended, append_branch, relay_called, relayed, gives, with_block, takes_blocks, blocks_wanted, makes_too_many, relay_request, t_relay, target_address, has_no_hop, too_many_hops, has_destination, fits_first}
+use Rattle.host_meaning.specs.Relaying.{first_target, most_branches, appended, append_branch, relay_of, relay_called, relayed, gives, with_block, takes_blocks, blocks_wanted, makes_too_many, relay_request, t_relay, target_address, has_no_hop, too_many_hops, has_destination, fits_first}
 use Rattle.host_meaning.specs.Suspending.{opened, t_suspend, claim_heard, claimed, claims_numbered, t_continue, refuses_suspension, has_continued_all}
 use Rattle.host_meaning.specs.TableRows.{or_lacks, limit_written}
 use Rattle.host_meaning.specs.Rows.{row, read_row, write_row, called, call_over, has_started}
 use Rattle.host_meaning.specs.Host.{HostEnd, Finished, RanOut, Onward, resumed, by_row, host, at_start, run_of}
-use Rattle.host_meaning.specs.Funds.{EndsAlways, IsFundedOutcome, IsFunded, IsFundedRow, IsFundedEnd, AreProvisional, RespondsProvisionally}
+use Rattle.host_meaning.specs.Funds.{EndsAlways, IsFundedOutcome, IsFunded, IsFundedRow, IsFundedEnd, AreProvisional, RowRespondsProvisionally, RespondsProvisionally}
 
 -- ---- courses
 
@@ -64,7 +64,7 @@ one_more (x ∷ rs) r p l = (p.0, one_more rs r p.1 l)
 below : (k : ℕ) → nat_lt k 200 ≡ true → k < 200
 below k e = grind (arith, nat_tests)
 
-at_most : (k : ℕ) → nat_lt most_branches k ≡ false → k ≤ most_branches
+at_most : (k : ℕ) → nat_lt most_branches k ≡ false → k ≤ 12
 at_most k e = grind (arith, nat_tests)
 
 undecided : (n : ℕ) (o : Outcome) (now blocks : ℕ) → is_undecided o ≡ true → IsFundedOutcome n o now blocks → now ≡ n
@@ -74,10 +74,31 @@ undecided n (Answered response) now blocks e p = absurd (true≢false (sym e))
 undecided n (Relayed relay) now blocks e p = absurd (true≢false (sym e))
 undecided n Suspended now blocks e p = absurd (true≢false (sym e))
 
--- so many branches were before, and this holds of the responses: it stays where a provisional one is decided
-module _ (n : ℕ) (Fine : List Response → Type 0) (grows : (rs : List Response) (r : Response) → Fine rs → r.code < 200 → Fine (rs ++ r ∷ [])) where
+-- the branches are counted from so many that were before, or not at all
+abbrev Counts : Option ℕ → Outcome → ℕ → ℕ → Type 0
+Counts None outcome now blocks = Unit {0}
+Counts (Some n) outcome now blocks = IsFundedOutcome n outcome now blocks
+
+stateless : (m : Option ℕ) (response : Response) (now blocks : ℕ) → Counts m (Stateless response) now blocks
+stateless None response now blocks = tt
+stateless (Some n) response now blocks = tt
+
+answered : (m : Option ℕ) (response : Response) (now blocks : ℕ) → Counts m (Answered response) now blocks
+answered None response now blocks = tt
+answered (Some n) response now blocks = tt
+
+suspended : (m : Option ℕ) (now blocks : ℕ) → Counts m Suspended now blocks
+suspended None now blocks = tt
+suspended (Some n) now blocks = tt
+
+relays : (m : Option ℕ) (f : Facts) (blocks paid now : ℕ) → is_undecided f.outcome ≡ true → Counts m f.outcome f.branches blocks → makes_too_many f ≡ false → paid ≡ blocks + (blocks_wanted f + 0) → Counts m (Relayed (relay_of f)) now paid
+relays None f blocks paid now u p few e = tt
+relays (Some n) f blocks paid now u p few e = let same = undecided n f.outcome f.branches blocks u p in let k = at_most _ few in (omega arith, omega arith)
+
+-- the branches are counted so, and this holds of the responses: it stays where a provisional one is decided
+module _ (m : Option ℕ) (Fine : List Response → Type 0) (grows : (rs : List Response) (r : Response) → Fine rs → r.code < 200 → Fine (rs ++ r ∷ [])) where
   abbrev Sound : RunState → Type 0
-  Sound s = IsFunded n s × Fine s.facts.responses
+  Sound s = Counts m s.facts.outcome s.facts.branches s.blocks × Fine s.facts.responses
 
   abbrev SoundRow : RowEnd → Type 0
   SoundRow (Tells answer s) = Sound s
@@ -109,7 +130,7 @@ module _ (n : ℕ) (Fine : List Response → Type 0) (grows : (rs : List Respons
   answers_sure false s p = p
 
   stateless_sound : (response : Response) (s : RunState) → Sound s → Sound (with_facts s (record s.facts { outcome = Stateless response }))
-  stateless_sound response s p = (tt, p.1)
+  stateless_sound response s p = (stateless m response _ _, p.1)
 
   sl_send_reply_sure : (r : Received) (status : ℕ) (reason : List ℕ) (s : RunState) → Sound s → Sure (sl_send_reply r status reason s)
   sl_send_reply_sure r status reason s p =
@@ -161,7 +182,7 @@ module _ (n : ℕ) (Fine : List Response → Type 0) (grows : (rs : List Respons
       if_sure (has_no_transaction r || s.facts.standing.exists) _ _ p p
 
   answered_sound : (response : Response) (s : RunState) → Sound s → Sound (with_facts s (with_final_response response s.facts))
-  answered_sound response s p = (tt, p.1)
+  answered_sound response s p = (answered m response _ _, p.1)
 
   replied_sound : (response : Response) (s : RunState) → Sound s → Sound (with_facts s (replied response s.facts))
   replied_sound response s p =
@@ -217,10 +238,8 @@ module _ (n : ℕ) (Fine : List Response → Type 0) (grows : (rs : List Respons
   takes_sure zero taken s after p q = q (s.blocks + taken) (omega arith)
   takes_sure (suc k) taken s after p q = λ h. block_sure h taken s _ p (takes_sure k (suc taken) s after p (λ b e. q b (omega arith)))
 
-  relayed_sound : (r : Received) (s : RunState) (b : ℕ) → s.facts.branches ≡ n → makes_too_many s.facts ≡ false → b ≡ s.blocks + (blocks_wanted s.facts + 0) → Fine s.facts.responses → Sound (relayed r (record s { blocks = b }))
-  relayed_sound r s b e few paid p =
-      let m = at_most _ few in
-      ((omega arith, omega arith), trying_fine r (with_transaction s.facts) p)
+  relayed_sound : (r : Received) (s : RunState) (b : ℕ) → is_undecided s.facts.outcome ≡ true → Sound s → makes_too_many s.facts ≡ false → b ≡ s.blocks + (blocks_wanted s.facts + 0) → Sound (relayed r (record s { blocks = b }))
+  relayed_sound r s b u p few paid = (relays m s.facts s.blocks b _ u p.0 few paid, trying_fine r (with_transaction s.facts) p.1)
 
   relay_request_sure : (a : Around) (r : Received) (s : RunState) → Sound s → Sure (relay_request a r s)
   relay_request_sure a r s p =
@@ -231,14 +250,13 @@ module _ (n : ℕ) (Fine : List Response → Type 0) (grows : (rs : List Respons
       if_sure (not (fits_first a r s.facts)) _ _ p
       (takes_sure (blocks_wanted s.facts) 0 s (λ t. code (pos 1) (relayed r t)) p (λ b paid.
       relayed_sound r s b
-      (undecided n s.facts.outcome s.facts.branches s.blocks
-      (not-false _ (or_parts (not (is_undecided s.facts.outcome)) _ (or_parts (not (is_undecided s.facts.outcome) || s.facts.standing.is_answered) _ still).0).0) p.0)
-      (or_parts (not (has_destination a s.facts)) (makes_too_many s.facts) few).1 paid p.1))))))
+      (not-false _ (or_parts (not (is_undecided s.facts.outcome)) _ (or_parts (not (is_undecided s.facts.outcome) || s.facts.standing.is_answered) _ still).0).0)
+      p (or_parts (not (has_destination a s.facts)) (makes_too_many s.facts) few).1 paid))))))
 
   -- ---- suspending
 
   opened_sure : (r : Received) (s : RunState) (h : Heard) → Sound s → Sure (opened r s h)
-  opened_sure r s (heard.Opened serial) p = (tt, trying_fine r (with_transaction s.facts) p.1)
+  opened_sure r s (heard.Opened serial) p = (suspended m _ _, trying_fine r (with_transaction s.facts) p.1)
   opened_sure r s h p = tt
 
   suspend_sure : (r : Received) (s : RunState) → Sound s → Sure (t_suspend r s)
@@ -363,41 +381,52 @@ module _ (n : ℕ) (Fine : List Response → Type 0) (grows : (rs : List Respons
     run_sure : (script : Script) (block : ℕ) (s : RunState) → Sound s → EndsAlways SoundEnd (run_of script block a s)
     run_sure script block s p = (tt, host_sure (dialogue script block (at_start script)) s p)
 
-  weaker_row : (end : RowEnd) → SoundRow end → IsFundedRow n end
-  weaker_row (Tells answer s) p = p.0
-  weaker_row (Lacks s) p = tt
+-- ---- the branches are counted, and nothing is asked of the responses
 
-  weaker_funded : (end : HostEnd) → SoundEnd end → IsFundedEnd n end
-  weaker_funded (Finished s how) p = p.0
-  weaker_funded (RanOut kept) p = tt
+abbrev Any : List Response → Type 0
+Any responses = Unit {0}
 
--- ---- the laws
+any_grows : (rs : List Response) (r : Response) → Any rs → r.code < 200 → Any (rs ++ r ∷ [])
+any_grows rs r p l = tt
 
-weaker_fine : (n : ℕ) (end : HostEnd) → SoundEnd n AreProvisional one_more end → RespondsProvisionally end
-weaker_fine n (Finished s how) p = p.1
-weaker_fine n (RanOut kept) p = tt
+row_is_funded : (n : ℕ) (end : RowEnd) → SoundRow (Some n) Any any_grows end → IsFundedRow n end
+row_is_funded n (Tells answer s) p = p.0
+row_is_funded n (Lacks s) p = tt
+
+end_is_funded : (n : ℕ) (end : HostEnd) → SoundEnd (Some n) Any any_grows end → IsFundedEnd n end
+end_is_funded n (Finished s how) p = p.0
+end_is_funded n (RanOut kept) p = tt
 
 begun : (n : ℕ) (o : Outcome) (blocks : ℕ) → o ≡ Undecided → IsFundedOutcome n o n blocks
 begun n o blocks e = subst (λ x. IsFundedOutcome n x n blocks) (sym e) refl
 
--- nothing is asked of the responses
-abbrev AnyResponses : List Response → Type 0
-AnyResponses rs = Unit {0}
-
-any_grows : (rs : List Response) (r : Response) → AnyResponses rs → r.code < 200 → AnyResponses (rs ++ r ∷ [])
-any_grows rs r p l = tt
-
 pub called_funded : (n : ℕ) (a : Around) (r : Received) (f : Func) (values : List Val) (s : RunState) → has_no_transaction r ≡ false → IsFunded n s → EndsAlways (IsFundedRow n) (called a (Some r) f values s)
 called_funded n a r f values s own p =
-    always_weaker (SoundRow n AnyResponses any_grows) (IsFundedRow n) (weaker_row n AnyResponses any_grows) (called a (Some r) f values s)
-    (over_sure n AnyResponses any_grows a r own f values s (p, tt))
+    always_weaker (SoundRow (Some n) Any any_grows) (IsFundedRow n) (row_is_funded n) (called a (Some r) f values s)
+    (over_sure (Some n) Any any_grows a r own f values s (p, tt))
 
-pub relays_funded : (script : Script) (block : ℕ) (a : Around) (r : Received) (f : Facts) → a.received ≡ Some r → has_no_transaction r ≡ false → f.outcome ≡ Undecided → EndsAlways (IsFundedEnd f.branches) (run_of script block a (record { facts = f; blocks = 0 }))
-relays_funded script block a r f over own still =
-    always_weaker (SoundEnd f.branches AnyResponses any_grows) (IsFundedEnd f.branches) (weaker_funded f.branches AnyResponses any_grows) (run_of script block a (record { facts = f; blocks = 0 }))
-    (run_sure f.branches AnyResponses any_grows a r over own script block (record { facts = f; blocks = 0 }) (begun f.branches f.outcome 0 still, tt))
+pub run_funded : (script : Script) (block : ℕ) (a : Around) (r : Received) (f : Facts) → a.received ≡ Some r → has_no_transaction r ≡ false → f.outcome ≡ Undecided → EndsAlways (IsFundedEnd f.branches) (run_of script block a (record { facts = f; blocks = 0 }))
+run_funded script block a r f over own still =
+    let s : RunState = record { facts = f; blocks = 0 } in
+    always_weaker (SoundEnd (Some f.branches) Any any_grows) (IsFundedEnd f.branches) (end_is_funded f.branches) (run_of script block a s)
+    (run_sure (Some f.branches) Any any_grows a r over own script block s (begun f.branches f.outcome 0 still, tt))
 
-pub responds_provisionally : (script : Script) (block : ℕ) (a : Around) (r : Received) (f : Facts) → a.received ≡ Some r → has_no_transaction r ≡ false → f.outcome ≡ Undecided → f.responses ≡ [] → EndsAlways RespondsProvisionally (run_of script block a (record { facts = f; blocks = 0 }))
-responds_provisionally script block a r f over own still none =
-    always_weaker (SoundEnd f.branches AreProvisional one_more) RespondsProvisionally (weaker_fine f.branches) (run_of script block a (record { facts = f; blocks = 0 }))
-    (run_sure f.branches AreProvisional one_more a r over own script block (record { facts = f; blocks = 0 }) (begun f.branches f.outcome 0 still, subst AreProvisional (sym none) tt))
+-- ---- the responses are provisional, and no branch is counted
+
+row_is_fine : (end : RowEnd) → SoundRow None AreProvisional one_more end → RowRespondsProvisionally end
+row_is_fine (Tells answer s) p = p.1
+row_is_fine (Lacks s) p = tt
+
+end_is_fine : (end : HostEnd) → SoundEnd None AreProvisional one_more end → RespondsProvisionally end
+end_is_fine (Finished s how) p = p.1
+end_is_fine (RanOut kept) p = tt
+
+pub called_provisional : (a : Around) (r : Received) (f : Func) (values : List Val) (s : RunState) → has_no_transaction r ≡ false → AreProvisional s.facts.responses → EndsAlways RowRespondsProvisionally (called a (Some r) f values s)
+called_provisional a r f values s own p =
+    always_weaker (SoundRow None AreProvisional one_more) RowRespondsProvisionally row_is_fine (called a (Some r) f values s)
+    (over_sure None AreProvisional one_more a r own f values s (tt, p))
+
+pub run_provisional : (script : Script) (block : ℕ) (a : Around) (r : Received) (s : RunState) → a.received ≡ Some r → has_no_transaction r ≡ false → s.facts.responses ≡ [] → EndsAlways RespondsProvisionally (run_of script block a s)
+run_provisional script block a r s over own none =
+    always_weaker (SoundEnd None AreProvisional one_more) RespondsProvisionally end_is_fine (run_of script block a s)
+    (run_sure None AreProvisional one_more a r over own script block s (tt, subst AreProvisional (sym none) tt))
