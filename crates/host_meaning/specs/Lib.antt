@@ -9,3 +9,4 @@ pub mod Suspending
 pub mod TableRows
 pub mod Rows
 pub mod Host
+pub mod Funds
