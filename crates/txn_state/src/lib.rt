@@ -11,6 +11,7 @@
 #![tactic(auto)]
 
 mod branch;
+mod changes;
 mod ending;
 mod text_block;
 mod timers;
