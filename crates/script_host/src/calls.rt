@@ -18,10 +18,10 @@ use message_functions::{
     mf_process_maxfwd_header, record_route, remove_hf, sl_send_reply,
 };
 use pv_table::Facts;
-use sip_msg::Message;
-use transaction_functions::{has_no_transaction, t_newtran, t_reply, t_set_fr};
 use pv_values::{Func, FuncName, HostAnswer, Text, Val, as_text};
+use sip_msg::Message;
 use std::alloc::{AllocError as NoMemory, Global};
+use transaction_functions::{has_no_transaction, t_newtran, t_reply, t_set_fr};
 
 /// The row of a function that is called. One that hasn't started, and one in a run that a block of another kind began,
 /// returns -9. Out of memory the facts stay as they were.

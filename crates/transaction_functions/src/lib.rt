@@ -18,6 +18,6 @@ mod timers;
 
 pub use destinations::{address_of, target_address};
 pub use methods::{has_no_transaction, is_cancel, is_invite};
-pub use relaying::{relay_ack, relay_request, relayed, Relaying};
+pub use relaying::{Relaying, relay_ack, relay_request, relayed};
 pub use responses::{t_newtran, t_reply};
 pub use timers::t_set_fr;

@@ -78,7 +78,13 @@ fn has_destination(facts: &Facts, settings: &Settings) -> bool
 }
 
 /// Whether the request to the first target reads, with the number behind those of the branches that there are.
-fn fits_first(b: &[u8], m: &Message, facts: &Facts, settings: &Settings, room: &mut TextRoom) -> bool
+fn fits_first(
+    b: &[u8],
+    m: &Message,
+    facts: &Facts,
+    settings: &Settings,
+    room: &mut TextRoom,
+) -> bool
     requires reading { Reads b.now m.now }
     requires hops { IfSome m.now.max_forwards (λ hops. 0 < hops) }
     requires few { facts.now.branches < 12 }

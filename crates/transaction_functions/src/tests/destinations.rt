@@ -35,7 +35,11 @@ fn a_uri_is_sent_to_its_host(rt: HostRuntime) -> Result<(), Fail> {
                 port: *port,
             })
         };
-        assert_eq!(rt; address_of(&settings.hosts, uri.as_bytes()), expected, "{uri:?}");
+        assert_eq!(rt;
+            address_of(&settings.hosts, uri.as_bytes()),
+            expected,
+            "{uri:?}"
+        );
     }
     Ok(())
 }

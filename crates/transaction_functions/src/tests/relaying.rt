@@ -28,13 +28,27 @@ const ZERO: &str = "Max-Forwards: 0\r\n";
 /// and what `t_relay` comes to.
 const CALLS: [(Before, &str, &str, u8, usize, Relaying); 13] = [
     (Before::Nothing, B, "", 0, 0, Relaying::Wants(2)),
-    (Before::Responded, B, "Max-Forwards: 1\r\n", 0, 0, Relaying::Wants(2)),
+    (
+        Before::Responded,
+        B,
+        "Max-Forwards: 1\r\n",
+        0,
+        0,
+        Relaying::Wants(2),
+    ),
     (Before::Outcome, B, ZERO, 0, 0, Relaying::Code(-5)),
     (Before::Answered, B, "", 0, 0, Relaying::Code(-5)),
     (Before::Suspended, B, "", 0, 0, Relaying::Code(-5)),
     (Before::Cancelled, B, ZERO, 0, 0, Relaying::Code(-4)),
     (Before::Nothing, "tel:1", ZERO, 0, 0, Relaying::Code(-5)),
-    (Before::Nothing, "sip:b@other.example", "", 0, 0, Relaying::Code(-1)),
+    (
+        Before::Nothing,
+        "sip:b@other.example",
+        "",
+        0,
+        0,
+        Relaying::Code(-1),
+    ),
     (Before::Exists, B, "", 0, 2, Relaying::Wants(6)),
     (Before::Exists, B, "", 9, 2, Relaying::Wants(6)),
     (Before::Exists, B, "", 10, 2, Relaying::Code(-1)),
@@ -43,7 +57,12 @@ const CALLS: [(Before, &str, &str, u8, usize, Relaying); 13] = [
 ];
 
 /// What `t_relay` comes to.
-fn comes_to(rt: &impl Abort, alloc: Global, b: &[u8], of_run: &mut Facts) -> Result<Relaying, AllocError> {
+fn comes_to(
+    rt: &impl Abort,
+    alloc: Global,
+    b: &[u8],
+    of_run: &mut Facts,
+) -> Result<Relaying, AllocError> {
     let m = message(rt, b);
     let settings = settings(alloc)?;
     let mut room = TextRoom::new(alloc)?;
@@ -71,7 +90,10 @@ fn a_request_goes_on_where_nothing_speaks_against_it(rt: HostRuntime) -> Result<
         let found = comes_to(&rt, alloc, b.as_slice(), &mut of_run)?;
         assert_eq!(rt; found, *expected, "{before:?} {uri} {branches} {appended}");
         let has_no_hop = *fields == ZERO && *before == Before::Nothing;
-        assert_eq!(rt; (of_run.has_called_relay, is_483(&of_run)), (true, has_no_hop));
+        assert_eq!(rt;
+            (of_run.has_called_relay, is_483(&of_run)),
+            (true, has_no_hop)
+        );
     }
     Ok(())
 }
@@ -126,7 +148,10 @@ fn a_relayed_request_uses_its_targets_up(rt: HostRuntime) -> Result<(), Fail> {
         assert_eq!(rt; (of_run.branches, of_run.targets.len()), (5, 0));
         assert_eq!(rt; of_run.responses.len(), *responses, "{method} {before:?}");
         for response in of_run.responses.as_slice() {
-            assert_eq!(rt; (response.code, response.reason.bytes()), (100, b"Trying".as_slice()));
+            assert_eq!(rt;
+                (response.code, response.reason.bytes()),
+                (100, b"Trying".as_slice())
+            );
         }
         let targets = match &of_run.outcome {
             Outcome::Relayed(relay) => relay.targets.len(),
@@ -147,7 +172,12 @@ const ACKS: [(Before, &str, &str, i64); 5] = [
 ];
 
 /// The code of `t_relay` for an ACK, and whether it goes on.
-fn acked(rt: &impl Abort, alloc: Global, b: &[u8], of_run: &mut Facts) -> Result<(i64, bool), AllocError> {
+fn acked(
+    rt: &impl Abort,
+    alloc: Global,
+    b: &[u8],
+    of_run: &mut Facts,
+) -> Result<(i64, bool), AllocError> {
     let m = message(rt, b);
     let settings = settings(alloc)?;
     let mut room = TextRoom::new(alloc)?;

@@ -25,8 +25,15 @@ fn a_request_has_one_transaction(rt: HostRuntime) -> Result<(), Fail> {
         let b = request(alloc, method, b"")?;
         let m = message(&rt, b.as_slice());
         let mut of_run = facts(alloc, "sip:b@192.0.2.9", *before)?;
-        assert_eq!(rt; t_newtran(b.as_slice(), &m, &mut of_run), *code, "{method} {before:?}");
-        assert_eq!(rt; of_run.standing.exists, *code == 1 || *before == Before::Exists);
+        assert_eq!(rt;
+            t_newtran(b.as_slice(), &m, &mut of_run),
+            *code,
+            "{method} {before:?}"
+        );
+        assert_eq!(rt;
+            of_run.standing.exists,
+            *code == 1 || *before == Before::Exists
+        );
     }
     Ok(())
 }
@@ -41,7 +48,14 @@ enum Decided {
 
 /// A method, how the transaction stands, a code and a reason, and what `t_reply` answers and decides with them.
 const REPLIES: [(&str, Before, u16, &str, i64, Decided); 12] = [
-    ("INVITE", Before::Nothing, 180, "Ringing", 1, Decided::Provisional),
+    (
+        "INVITE",
+        Before::Nothing,
+        180,
+        "Ringing",
+        1,
+        Decided::Provisional,
+    ),
     ("INVITE", Before::Nothing, 199, "", 1, Decided::Provisional),
     ("INVITE", Before::Nothing, 200, "OK", 1, Decided::Final),
     ("BYE", Before::Exists, 404, "Not Found", 1, Decided::Final),
@@ -49,11 +63,32 @@ const REPLIES: [(&str, Before, u16, &str, i64, Decided); 12] = [
     ("CANCEL", Before::Nothing, 200, "OK", -1, Decided::Nothing),
     ("INVITE", Before::Outcome, 200, "OK", -1, Decided::Nothing),
     ("INVITE", Before::Answered, 200, "OK", -1, Decided::Nothing),
-    ("INVITE", Before::Cancelled, 180, "Ringing", -1, Decided::Nothing),
+    (
+        "INVITE",
+        Before::Cancelled,
+        180,
+        "Ringing",
+        -1,
+        Decided::Nothing,
+    ),
     ("INVITE", Before::Suspended, 200, "OK", -1, Decided::Nothing),
-    ("INVITE", Before::Nothing, 200, "a\r\nX: y", -3, Decided::Nothing),
+    (
+        "INVITE",
+        Before::Nothing,
+        200,
+        "a\r\nX: y",
+        -3,
+        Decided::Nothing,
+    ),
     // -1 goes before -3
-    ("INVITE", Before::Cancelled, 200, "a\nb", -1, Decided::Nothing),
+    (
+        "INVITE",
+        Before::Cancelled,
+        200,
+        "a\nb",
+        -1,
+        Decided::Nothing,
+    ),
 ];
 
 /// What the facts say was decided with this code.
@@ -89,8 +124,19 @@ fn a_transaction_is_answered_once(rt: HostRuntime) -> Result<(), Fail> {
     let alloc = rt.alloc();
     for (method, before, status, reason, code, what) in &REPLIES {
         let b = request(alloc, method, b"")?;
-        let found = replied(&rt, alloc, b.as_slice(), *before, *status, reason.as_bytes())?;
-        assert_eq!(rt; found, (*code, *what), "{method} {before:?} {status} {reason:?}");
+        let found = replied(
+            &rt,
+            alloc,
+            b.as_slice(),
+            *before,
+            *status,
+            reason.as_bytes(),
+        )?;
+        assert_eq!(rt;
+            found,
+            (*code, *what),
+            "{method} {before:?} {status} {reason:?}"
+        );
     }
     Ok(())
 }
@@ -106,7 +152,14 @@ fn a_response_of_a_transaction_has_at_most_8192_bytes(rt: HostRuntime) -> Result
     let b = request(alloc, "INVITE", b"")?;
     for (bytes, code, what) in &[(room, 1, Decided::Final), (room + 1, -3, Decided::Nothing)] {
         let reason = vec![in alloc; b'a'; *bytes]?;
-        let found = replied(&rt, alloc, b.as_slice(), Before::Nothing, 200, reason.as_slice())?;
+        let found = replied(
+            &rt,
+            alloc,
+            b.as_slice(),
+            Before::Nothing,
+            200,
+            reason.as_slice(),
+        )?;
         assert_eq!(rt; found, (*code, *what), "{bytes} bytes");
     }
     Ok(())
@@ -130,7 +183,11 @@ fn timers_are_set_up_to_an_hour(rt: HostRuntime) -> Result<(), Fail> {
         let mut of_run = facts(alloc, "sip:b@192.0.2.9", Before::Nothing)?;
         let found = t_set_fr(&mut of_run, invite.as_bytes(), other.as_bytes());
         let timers = of_run.final_timers;
-        assert_eq!(rt; (found, timers.invite, timers.other), (*code, *after, *rest), "{invite} {other}");
+        assert_eq!(rt;
+            (found, timers.invite, timers.other),
+            (*code, *after, *rest),
+            "{invite} {other}"
+        );
     }
     Ok(())
 }
