@@ -1,0 +1,14 @@
+//! The texts that a step of a transaction sends.
+//!
+//! What a step decides to send is a [`OutText`]: which text it is, and not the text itself. It is written when it is sent, by
+//! [`Sources::write`], into the room of who sends it, which takes no memory; [`Sources::is_sendable`] tells, when it is
+//! decided, whether it reads as a message: what doesn't isn't sent.
+//!
+//! What the texts are is said in `specs/Texts.antt`.
+#![tactic(auto)]
+
+mod out_text;
+mod sources;
+
+pub use out_text::{OutText, Reason};
+pub use sources::{ReadMessage, Sources};
