@@ -7,8 +7,10 @@
 //! What the texts are is said in `specs/Texts.antt`.
 #![tactic(auto)]
 
+mod desk;
 mod out_text;
 mod sources;
 
+pub use desk::Desk;
 pub use out_text::{OutText, Reason};
 pub use sources::{ReadMessage, Sources};
