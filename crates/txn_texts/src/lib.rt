@@ -9,8 +9,10 @@
 
 mod desk;
 mod out_text;
+mod outbox;
 mod sources;
 
 pub use desk::Desk;
 pub use out_text::{OutText, Reason};
+pub use outbox::{Addressed, Outbox, Sent};
 pub use sources::{ReadMessage, Sources};
