@@ -166,7 +166,8 @@ fn timers_that_are_due_at_one_time(rt: HostRuntime) -> Result<(), Fail> {
     Ok(())
 }
 
-/// The first due time of all, and the first one behind a time; a transaction is over once its server and its clients are.
+/// The first due time of all, and the first one behind a time; a transaction is over once its server and its clients are. A request
+/// that couldn't be sent is due at once.
 #[test]
 fn what_is_due_next(rt: HostRuntime) -> Result<(), Fail> {
     let mut pool = Pool::new(rt.alloc(), 4)?;
@@ -178,8 +179,16 @@ fn what_is_due_next(rt: HostRuntime) -> Result<(), Fail> {
     assert_eq!(rt; txn.is_over(), false);
     txn.progress.server.state = ServerState::Terminated;
     assert_eq!(rt; txn.is_over(), false);
-    txn.branches[0].state.client.state = ClientState::Terminated;
+    if let Some(branch) = txn.branches.get_mut(0) {
+        branch.state.client.state = ClientState::Terminated;
+    }
     assert_eq!(rt; txn.is_over(), true);
+    txn.is_unsent(0, 40);
+    txn.is_unsent(1, 30);
+    assert_eq!(rt;
+        txn.timer_at(40),
+        Some(SlotTimer::Branch(0, BranchTimer::Unsent))
+    );
     txn.request.write(b"ACK");
     assert_eq!(rt; txn.request.text(), b"ACK".as_slice());
     Ok(())

@@ -25,7 +25,7 @@ pub struct Desk {
 impl Desk {
     ghost use Rattle.std.specs.Prelude.{◌≡◌, take, length, true, IfOk, []};
     ghost use Rattle.host_meaning.specs.Run.{is_readable};
-    ghost use Rattle.txn_texts.specs.Texts.{AreRead, text_of};
+    ghost use Rattle.txn_texts.specs.Texts.{AreRead, parts_of, text_of};
     ghost use Rattle.txn_texts.specs.Desks.{text_on};
 
     pub fn new(alloc: Global) -> Result<Desk, NoMemory>
@@ -42,7 +42,7 @@ impl Desk {
     /// Whether the text reads as a message. One that doesn't isn't sent.
     pub fn is_sendable(&mut self, sources: &Sources<'_>, text: &OutText) -> bool
         requires { AreRead sources.now }
-        ensures { result ≡ is_readable (text_of sources.now text.now) }
+        ensures { result ≡ is_readable (text_of (parts_of sources.now) text.now) }
     {
         self.len = 0;
         match sources.write(text, &mut self.other, self.room.as_mut_slice()) {
@@ -65,8 +65,8 @@ impl Desk {
     /// Writes a text that reads, so that it can be sent.
     pub fn write(&mut self, sources: &Sources<'_>, text: &OutText)
         requires read { AreRead sources.now }
-        requires sendable { is_readable (text_of sources.now text.now) ≡ true }
-        ensures { text_on self.new ≡ text_of sources.now text.now }
+        requires sendable { is_readable (text_of (parts_of sources.now) text.now) ≡ true }
+        ensures { text_on self.new ≡ text_of (parts_of sources.now) text.now }
     {
         match sources.write(text, &mut self.other, self.room.as_mut_slice()) {
             Ok(len) => self.len = len,

@@ -35,14 +35,14 @@ pub struct Outbox {
 impl Outbox {
     ghost use Rattle.std.specs.Prelude.{◌≡◌, ◌<◌, ◌+◌, ◌∷◌, [], length, IfOk, OnOk, OnErr, MatchOption};
     ghost use Rattle.txn_dialogue.specs.Sends.{and_sent};
-    ghost use Rattle.txn_texts.specs.Texts.{AreRead, text_of};
+    ghost use Rattle.txn_texts.specs.Texts.{AreRead, Parts, parts_of, text_of};
     ghost use Rattle.txn_texts.specs.Desks.{text_on};
     ghost use Rattle.txn_texts.specs.Outboxes.{sends_shown, room_in, AllRead};
     ghost use Rattle.txn_dialogue.specs.Sends.{Sent as Decided};
 
     /// No datagram, and no room yet.
     pub fn new(alloc: Global) -> Outbox
-        ensures { (s : Sources) → sends_shown s result ≡ [] }
+        ensures { (p : Parts) → sends_shown p result ≡ [] }
     {
         Outbox {
             list: Vec::new(alloc),
@@ -53,8 +53,8 @@ impl Outbox {
     /// Makes room for so many datagrams more.
     pub fn reserve(&mut self, more: usize) -> Result<(), NoMemory>
         ensures room { OnOk result (more ≤ room_in self.new) }
-        ensures same { (s : Sources) → sends_shown s self.new ≡ sends_shown s self.old }
-        ensures read { (s : Sources) → AllRead s self.old → AllRead s self.new }
+        ensures same { (p : Parts) → sends_shown p self.new ≡ sends_shown p self.old }
+        ensures read { (p : Parts) → AllRead p self.old → AllRead p self.new }
     {
         self.list.reserve(more)
     }
@@ -70,8 +70,8 @@ impl Outbox {
     )
         requires read { AreRead sources.now }
         requires room { 0 < room_in self.old }
-        ensures sends { sends_shown sources.now self.new ≡ and_sent to (text_of sources.now text) branch (sends_shown sources.now self.old) }
-        ensures read { AllRead sources.now self.old → AllRead sources.now self.new }
+        ensures sends { sends_shown (parts_of sources.now) self.new ≡ and_sent to (text_of (parts_of sources.now) text) branch (sends_shown (parts_of sources.now) self.old) }
+        ensures read { AllRead (parts_of sources.now) self.old → AllRead (parts_of sources.now) self.new }
         ensures room { room_in self.old ≤ room_in self.new + 1 }
     {
         if desk.is_sendable(sources, &text) {
@@ -82,10 +82,10 @@ impl Outbox {
     /// Writes the first datagram that is left, and tells where it goes; none where none is left.
     pub fn next(&mut self, desk: &mut Desk, sources: &Sources<'_>) -> Option<Addressed>
         requires read { AreRead sources.now }
-        requires all_read { AllRead sources.now self.old }
-        ensures next { MatchOption result (sends_shown sources.now self.old ≡ []) (λ a. sends_shown sources.now self.old
-            ≡ record { to = a.to; text = text_on desk.new; branch = a.branch } ∷ sends_shown sources.now self.new) }
-        ensures read { AllRead sources.now self.new }
+        requires all_read { AllRead (parts_of sources.now) self.old }
+        ensures next { MatchOption result (sends_shown (parts_of sources.now) self.old ≡ []) (λ a. sends_shown (parts_of sources.now) self.old
+            ≡ record { to = a.to; text = text_on desk.new; branch = a.branch } ∷ sends_shown (parts_of sources.now) self.new) }
+        ensures read { AllRead (parts_of sources.now) self.new }
     {
         if self.written >= self.list.len() {
             return None;

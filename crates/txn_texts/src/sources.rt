@@ -6,7 +6,7 @@ ghost use Rattle.host_meaning.specs.Run.{is_readable};
 ghost use Rattle.txn_dialogue.specs.Slots.{reading};
 ghost use Rattle.txn_dialogue.specs.Sends.{repeated_text};
 ghost use Rattle.txn_state.specs.Kept.{text_if};
-ghost use Rattle.txn_texts.specs.Texts.{AreRead, IsSeen, ack_between, branch_at, branch_reading, cancel_for, request_of, seen_message, text_of};
+ghost use Rattle.txn_texts.specs.Texts.{AreRead, IsSeen, ack_between, cancel_for, parts_of, request_at, requests_of, seen_message, text_of};
 
 use crate::out_text::OutText;
 use sip_build::{TooLong, ack, cancel, reply};
@@ -41,7 +41,7 @@ impl<'a> Sources<'a> {
         out: &mut [u8],
     ) -> Result<usize, TooLong>
         requires { AreRead self.now }
-        ensures { IsWritten (text_of self.now text.now) out.old out.new result }
+        ensures { IsWritten (text_of (parts_of self.now) text.now) out.old out.new result }
     {
         match text {
             OutText::Made { code, reason } => {
@@ -68,7 +68,7 @@ impl<'a> Sources<'a> {
 
     /// The request of the branch of this number; nothing where there is none.
     fn branch_request(&self, n: u8) -> &[u8]
-        ensures { result.now ≡ request_of (branch_at self.now n) }
+        ensures { result.now ≡ request_at (requests_of self.now.txn.now.branches.items) n }
     {
         match self.txn.branches.get(usize::from(n)) {
             Some(branch) => branch.request.text(),
