@@ -1,6 +1,14 @@
 -- The text on a worker's desk.
-use Rattle.std.specs.Prelude.{ℕ, List, take}
+use Rattle.std.specs.Prelude.{ℕ, Bool, true, false, List, take, Option, Some}
 use Rattle.txn_texts.specs.declared.desk.Desk.{Desk}
 
 abbrev pub text_on : Desk → List ℕ
 text_on d = take d.len d.room.items
+
+-- the response that the server repeats: the one that this step has decided, or the one before
+abbrev pub last_by : Bool → List ℕ → Option (List ℕ) → Option (List ℕ)
+last_by false text old = old
+last_by true text old = Some text
+
+abbrev pub last_on : Desk → Option (List ℕ) → Option (List ℕ)
+last_on d old = last_by d.has_last (take d.last_len d.last.items) old

@@ -33,10 +33,10 @@ pub struct Outbox {
 }
 
 impl Outbox {
-    ghost use Rattle.std.specs.Prelude.{◌≡◌, ◌<◌, ◌+◌, ◌∷◌, [], length, IfOk, OnOk, OnErr, MatchOption};
-    ghost use Rattle.txn_dialogue.specs.Sends.{and_sent};
+    ghost use Rattle.std.specs.Prelude.{◌≡◌, ℕ, List, Option, ◌<◌, ◌+◌, ◌∷◌, [], length, IfOk, OnOk, OnErr, MatchOption};
+    ghost use Rattle.txn_dialogue.specs.Sends.{and_sent, kept_of};
     ghost use Rattle.txn_texts.specs.Texts.{AreRead, Parts, parts_of, text_of};
-    ghost use Rattle.txn_texts.specs.Desks.{text_on};
+    ghost use Rattle.txn_texts.specs.Desks.{text_on, last_on};
     ghost use Rattle.txn_texts.specs.Outboxes.{sends_shown, room_in, AllRead};
     ghost use Rattle.txn_dialogue.specs.Sends.{Sent as Decided};
 
@@ -73,6 +73,9 @@ impl Outbox {
         ensures sends { sends_shown (parts_of sources.now) self.new ≡ and_sent to (text_of (parts_of sources.now) text) branch (sends_shown (parts_of sources.now) self.old) }
         ensures read { AllRead (parts_of sources.now) self.old → AllRead (parts_of sources.now) self.new }
         ensures room { room_in self.old ≤ room_in self.new + 1 }
+        // The text lies on the desk where it reads.
+        ensures text { text_on desk.new ≡ kept_of (text_of (parts_of sources.now) text) }
+        ensures last { (old : Option (List ℕ)) → last_on desk.new old ≡ last_on desk.old old }
     {
         if desk.is_sendable(sources, &text) {
             self.list.push_reserved(Sent { to, text, branch });
@@ -86,6 +89,7 @@ impl Outbox {
         ensures next { MatchOption result (sends_shown (parts_of sources.now) self.old ≡ []) (λ a. sends_shown (parts_of sources.now) self.old
             ≡ record { to = a.to; text = text_on desk.new; branch = a.branch } ∷ sends_shown (parts_of sources.now) self.new) }
         ensures read { AllRead (parts_of sources.now) self.new }
+        ensures last { (old : Option (List ℕ)) → last_on desk.new old ≡ last_on desk.old old }
     {
         if self.written >= self.list.len() {
             return None;
