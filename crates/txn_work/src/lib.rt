@@ -11,5 +11,8 @@
 mod responses;
 mod work;
 
-pub use responses::respond;
+pub use responses::{respond, respond_with, serve, settle};
 pub use work::Work;
+
+#[cfg(test)]
+mod tests;
