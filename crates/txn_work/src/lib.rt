@@ -13,6 +13,3 @@ mod work;
 
 pub use responses::{respond, respond_with, serve, settle};
 pub use work::Work;
-
-#[cfg(test)]
-mod tests;

@@ -36,6 +36,7 @@ pub fn respond<'a>(
     ensures read { AllRead (parts_at txn.old request.now response.entry passed.now) work.old.outbox
         → AllRead (parts_at txn.new request.now response.entry passed.now) work.new.outbox }
     ensures room { room_in work.old.outbox ≤ room_in work.new.outbox + 1 }
+    ensures same { txn.new ≡ record txn.old { progress = record txn.old.progress { server = txn.new.progress.server } } }
 {
     let had_final = txn.has_final();
     let acts = server_step(&mut txn.progress.server, ServerEvent::Send(code), work.now);
@@ -74,6 +75,7 @@ pub fn respond_with<'a>(
     ensures read { AllRead (parts_at txn.old request.now response.entry passed.now) work.old.outbox
         → AllRead (parts_at txn.new request.now response.entry passed.now) work.new.outbox }
     ensures room { room_in work.old.outbox ≤ room_in work.new.outbox + 1 }
+    ensures same { txn.new ≡ record txn.old { progress = record txn.old.progress { server = txn.new.progress.server } } }
 {
     let text = OutText::Made { code, reason };
     respond(txn, work, desk, request, response, passed, code, text);
@@ -95,6 +97,7 @@ pub fn settle<'a>(
         ≡ settled (work_shown k (parts_at txn.old request.now response.entry passed.now) txn.old desk.old work.old) }
     ensures read { AllRead (parts_at txn.old request.now response.entry passed.now) work.old.outbox
         → AllRead (parts_at txn.new request.now response.entry passed.now) work.new.outbox }
+    ensures same { txn.new ≡ record txn.old { progress = record txn.old.progress { server = txn.new.progress.server } } }
 {
     if txn.owes_487() {
         let reason = Reason::Own(b"Request Terminated");
@@ -121,6 +124,7 @@ pub fn serve<'a>(
     ensures read { AllRead (parts_at txn.old request.now response.entry passed.now) work.old.outbox
         → AllRead (parts_at txn.new request.now response.entry passed.now) work.new.outbox }
     ensures room { room_in work.old.outbox ≤ room_in work.new.outbox + 1 }
+    ensures same { txn.new ≡ record txn.old { progress = record txn.old.progress { server = txn.new.progress.server } } }
 {
     let acts = server_step(&mut txn.progress.server, event, work.now);
     if !acts.repeat {
