@@ -3,6 +3,7 @@
 mod blocks;
 mod checks;
 mod handed_on;
+mod meanings;
 mod runs;
 mod syntax;
 mod traces;
