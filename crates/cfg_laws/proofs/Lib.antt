@@ -1,0 +1,8 @@
+mod Telling
+mod Walk
+mod SilentNames
+mod Calling
+mod Positions
+mod Whole
+mod Targets
+mod Routes

@@ -1,0 +1,11 @@
+//! Where each kind of refusal is among the refusals of a tree: exactly where the tree has what the kind is for.
+
+ghost use Rattle.pv_values.specs.declared.refusal.Place.{Place};
+ghost use Rattle.cfg_tree.specs.declared.raw.RawScript.{RawScript};
+ghost use Rattle.cfg_tree.specs.declared.refusal_kind.RefusalKind.TheVariants.{UnknownRoute};
+ghost use Rattle.cfg_laws.specs.Causes.{Exactly, IsListed, NamesNoBlock};
+
+/// UnknownRoute: at a route's name that a call gives, and that has no block.
+pub fn an_unknown_route_has_no_block()
+    ensures { (raw : RawScript) (at : Place) → Exactly (IsListed raw UnknownRoute at) (NamesNoBlock raw at) }
+{}
