@@ -6,3 +6,5 @@ mod Positions
 mod Whole
 mod Targets
 mod Routes
+mod Apart
+mod Blocks

@@ -37,12 +37,12 @@ use Rattle.cfg_laws.proofs.Whole.{IsOfBodies, StandsThere, stands_listed}
 
 -- ---- a block of a kind and name
 
-block_mapped : (bs : List RawBlock) (y : RouteKind × Option (List ℕ)) → In y (map block_name bs) → (b : RawBlock) × In b bs × (block_name b ≡ y)
+pub block_mapped : (bs : List RawBlock) (y : RouteKind × Option (List ℕ)) → In y (map block_name bs) → (b : RawBlock) × In b bs × (block_name b ≡ y)
 block_mapped [] y h = absurd h
 block_mapped (b ∷ bs) y (inl e) = (b, inl refl, e)
 block_mapped (b ∷ bs) y (inr h) = let k = block_mapped bs y h in (k.0, inr k.1, k.2)
 
-mapped_block : (bs : List RawBlock) (b : RawBlock) → In b bs → In (block_name b) (map block_name bs)
+pub mapped_block : (bs : List RawBlock) (b : RawBlock) → In b bs → In (block_name b) (map block_name bs)
 mapped_block [] b h = h
 mapped_block (c ∷ bs) b (inl e) = inl (ap block_name e)
 mapped_block (c ∷ bs) b (inr h) = inr (mapped_block bs b h)

@@ -69,7 +69,7 @@ in_stands raw P h =
 -- ---- the other refusals
 
 module _ (r : Refusal) where
-  if_none : (b : Bool) (x : Refusal) → (x ≡ r → ⊥) → In r (if b then x ∷ [] else []) → ⊥
+  pub if_none : (b : Bool) (x : Refusal) → (x ≡ r → ⊥) → In r (if b then x ∷ [] else []) → ⊥
   if_none true x other h = other (alone r x h)
   if_none false x other h = h
 
@@ -93,27 +93,29 @@ module _ (r : Refusal) where
           | inr k ↦ limit_none w new k
         ]
 
-    item_none : (i : RawItem) (s : Settings) → ((w : Word) → i ≡ item.Module w → is_module w.text ≡ false → refusal UnknownModule w.at ≡ r → ⊥) → In r (item_step i s).1 → ⊥
-    item_none (item.Parameter w value) s other h = set_none w s (with_parameter w.text value s) h
-    item_none (item.Module w) s other h = by_name (is_module w.text) refl h
+    -- an item tells it where it loads another module
+    item_one : (Q : Type 0) (i : RawItem) (s : Settings) → ((w : Word) → i ≡ item.Module w → is_module w.text ≡ false → refusal UnknownModule w.at ≡ r → Q) → In r (item_step i s).1 → Q
+    item_one Q (item.Parameter w value) s other h = absurd (set_none w s (with_parameter w.text value s) h)
+    item_one Q (item.Module w) s other h = by_name (is_module w.text) refl h
       where
-        by_name : (b : Bool) → is_module w.text ≡ b → In r (if b then [] else refusal UnknownModule w.at ∷ []) → ⊥
-        by_name true is h = h
+        by_name : (b : Bool) → is_module w.text ≡ b → In r (if b then [] else refusal UnknownModule w.at ∷ []) → Q
+        by_name true is h = absurd h
         by_name false is h = other w refl is (alone r (refusal UnknownModule w.at) h)
-    item_none (item.ModuleParameter of w value) s other h =
+    item_one Q (item.ModuleParameter of w value) s other h =
         let set = set_or_refused w s (with_module_parameter of.text w.text value s) in
-        within_none w s set.0 set.1 (set_none w s (with_module_parameter of.text w.text value s)) h
-    item_none (item.Block b) s other h = h
+        absurd (within_none w s set.0 set.1 (set_none w s (with_module_parameter of.text w.text value s)) h)
+    item_one Q (item.Block b) s other h = absurd h
 
-    behind_none : (items : List RawItem) (s : Settings) → ((w : Word) → In (item.Module w) items → is_module w.text ≡ false → refusal UnknownModule w.at ≡ r → ⊥) → In r (settings_behind s items).1 → ⊥
-    behind_none [] s other h = h
-    behind_none (i ∷ more) s other h = elim (in_parts r (item_step i s).1 (settings_behind (item_step i s).0 more).1 h) [
-      | inl k ↦ item_none i s (λ w is. other w (inl is)) k
-      | inr k ↦ behind_none more (item_step i s).0 (λ w there. other w (inr there)) k
+    pub behind_one : (Q : Type 0) (items : List RawItem) (s : Settings) → ((w : Word) → In (item.Module w) items → is_module w.text ≡ false → refusal UnknownModule w.at ≡ r → Q) →
+        In r (settings_behind s items).1 → Q
+    behind_one Q [] s other h = absurd h
+    behind_one Q (i ∷ more) s other h = elim (in_parts r (item_step i s).1 (settings_behind (item_step i s).0 more).1 h) [
+      | inl k ↦ item_one Q i s (λ w is. other w (inl is)) k
+      | inr k ↦ behind_one Q more (item_step i s).0 (λ w there. other w (inr there)) k
     ]
 
     pub settings_none : (items : List RawItem) → ((w : Word) → In (item.Module w) items → is_module w.text ≡ false → refusal UnknownModule w.at ≡ r → ⊥) → In r (setting_refusals items) → ⊥
-    settings_none items other h = behind_none items unset other h
+    settings_none items other h = behind_one ⊥ items unset other h
 
   -- ---- the blocks
 
@@ -177,3 +179,57 @@ unfolding bodies_of
 stands_listed raw r P other body =
     let told = bodies_tell r (known_of raw) P body (blocks_of raw.items) in
     (λ h. stands_in raw P (told.only nothing_seen (bodies_listed raw r other h)), λ h. listed_bodies raw r (told.whole nothing_seen (in_stands raw P h)))
+
+-- nothing that stands in the bodies tells it
+pub bodies_silent : (raw : RawScript) (r : Refusal) → ((b : RawBlock) → Leaves r (λ _. ⊥) (body_in (known_of raw) b) (body_leaves b)) → In r (bodies_of raw).refusals → ⊥
+unfolding bodies_of
+bodies_silent raw r body h =
+    let told = bodies_tell r (known_of raw) (λ kind leaf. ⊥) body (blocks_of raw.items) in
+    (stands_in raw (λ kind leaf. ⊥) (told.only nothing_seen h)).3
+
+-- one of the settings, of the blocks' own, of the bodies, or that there is no request route
+pub data Of_all (raw : RawScript) (r : Refusal) : Type 0 where
+  of_settings : In r (setting_refusals raw.items) → Of_all raw r
+  of_blocks : In r (block_refusals [] (blocks_of raw.items)) → Of_all raw r
+  of_bodies : In r (bodies_of raw).refusals → Of_all raw r
+  of_request : In r (no_request raw (unnamed Request raw)) → Of_all raw r
+
+pub all_parts : (raw : RawScript) (r : Refusal) → Contains (refusals_of raw) r → Of_all raw r
+unfolding refusals_of
+all_parts raw r h =
+    let settings = setting_refusals raw.items in
+    let blocks = block_refusals [] (blocks_of raw.items) in
+    let bodies = (bodies_of raw).refusals in
+    let request = no_request raw (unnamed Request raw) in
+    elim (in_parts r (settings ++ blocks ++ bodies) request (in_from_contains r (settings ++ blocks ++ bodies ++ request) h)) [
+      | inl k ↦ elim (in_parts r (settings ++ blocks) bodies k) [
+        | inl l ↦ elim (in_parts r settings blocks l) [
+          | inl m ↦ of_settings m
+          | inr m ↦ of_blocks m
+        ]
+        | inr l ↦ of_bodies l
+      ]
+      | inr k ↦ of_request k
+    ]
+
+pub all_from : (raw : RawScript) (r : Refusal) → Of_all raw r → Contains (refusals_of raw) r
+unfolding refusals_of
+all_from raw r (of_settings h) =
+    let settings = setting_refusals raw.items in
+    let blocks = block_refusals [] (blocks_of raw.items) in
+    let bodies = (bodies_of raw).refusals in
+    let request = no_request raw (unnamed Request raw) in
+    contains_from_in r (settings ++ blocks ++ bodies ++ request) (in_front r (settings ++ blocks ++ bodies) request (in_front r (settings ++ blocks) bodies (in_front r settings blocks h)))
+all_from raw r (of_blocks h) =
+    let settings = setting_refusals raw.items in
+    let blocks = block_refusals [] (blocks_of raw.items) in
+    let bodies = (bodies_of raw).refusals in
+    let request = no_request raw (unnamed Request raw) in
+    contains_from_in r (settings ++ blocks ++ bodies ++ request) (in_front r (settings ++ blocks ++ bodies) request (in_front r (settings ++ blocks) bodies (in_back r settings blocks h)))
+all_from raw r (of_bodies h) = listed_bodies raw r h
+all_from raw r (of_request h) =
+    let settings = setting_refusals raw.items in
+    let blocks = block_refusals [] (blocks_of raw.items) in
+    let bodies = (bodies_of raw).refusals in
+    let request = no_request raw (unnamed Request raw) in
+    contains_from_in r (settings ++ blocks ++ bodies ++ request) (in_back r (settings ++ blocks ++ bodies) request h)

@@ -1,6 +1,7 @@
 -- Why a tree is refused, kind by kind, each in words of its own.
-use Rattle.std.specs.Prelude.{◌≡◌, ◌⊎◌, ℕ, List, [], ◌∷◌, ◌++◌, map, Contains, Option, Some, None, codes}
+use Rattle.std.specs.Prelude.{◌≡◌, ◌⊎◌, ℕ, false, List, [], ◌∷◌, ◌++◌, map, Contains, Option, Some, None, codes}
 use Rattle.std.specs.List.{flat_map}
+use Rattle.pv_values.specs.Matching.{is_pattern}
 use Rattle.pv_values.specs.declared.block.BlockKind.TheVariants.{Request, Branch, Failure, Reply}
 use Rattle.pv_values.specs.declared.refusal.Place.{Place}
 use Rattle.sip_words.specs.ByteNames.{SLASH}
@@ -22,6 +23,7 @@ use Rattle.cfg_tree.specs.declared.raw.RawBlock.{RawBlock}
 use Rattle.cfg_tree.specs.declared.raw.RawItem.TheVariants as item
 use Rattle.cfg_tree.specs.declared.raw.RawScript.{RawScript}
 use Rattle.cfg_tree.specs.declared.refusal_kind.RefusalKind.{RefusalKind}
+use Rattle.cfg_tree.specs.Names.{table_and_key}
 use Rattle.cfg_tree.specs.Refusals.{refusal}
 use Rattle.cfg_tree.specs.Settings.{module_names}
 use Rattle.cfg_tree.specs.Checks.{blocks_of, name_text, name_place, refusals_of}
@@ -139,6 +141,28 @@ pub record IsSecond (raw : RawScript) (at : Place) : Type 0 where
   pub one_kind : first.kind ≡ block.kind
   pub one_name : name_text first.name ≡ name_text block.name
   pub place : at ≡ name_place block.kind_at block.name
+
+-- ---- 12: a text that is no pattern
+
+-- a call takes this text, which stands there, as a pattern
+pub data TakesPattern : RawCall → Place → List ℕ → Type 0 where
+  of_status : (f w : Word) → f.text ≡ codes "t_check_status" → TakesPattern (call.Function f (arg.String w ∷ [])) w.at w.text
+  of_keys : (f w : Word) (table pattern : List ℕ) → f.text ≡ codes "sht_rm_name_re" → table_and_key w.text ≡ Some (table, pattern) →
+      TakesPattern (call.Function f (arg.String w ∷ [])) w.at pattern
+
+-- the leaf has a pattern there: after `=~`, or in a call
+pub data HasPattern : Leaf → Place → List ℕ → Type 0 where
+  compared : (w : Word) → HasPattern (Matches w) w.at w.text
+  taken : (c : RawCall) (at : Place) (source : List ℕ) → TakesPattern c at source → HasPattern (Calls c) at source
+
+-- a pattern that stands there is none of `regex`
+pub record IsNoPattern (raw : RawScript) (at : Place) : Type 0 where
+  pub kind : RouteKind
+  pub leaf : Leaf
+  pub stands : Stands raw kind leaf
+  pub source : List ℕ
+  pub has : HasPattern leaf at source
+  pub bad : is_pattern source ≡ false
 
 -- ---- 14: no request route
 

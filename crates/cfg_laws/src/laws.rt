@@ -2,10 +2,15 @@
 
 ghost use Rattle.pv_values.specs.declared.refusal.Place.{Place};
 ghost use Rattle.cfg_tree.specs.declared.raw.RawScript.{RawScript};
-ghost use Rattle.cfg_tree.specs.declared.refusal_kind.RefusalKind.TheVariants.{UnknownRoute};
-ghost use Rattle.cfg_laws.specs.Causes.{Exactly, IsListed, NamesNoBlock};
+ghost use Rattle.cfg_tree.specs.declared.refusal_kind.RefusalKind.TheVariants.{UnknownRoute, RouteTwice};
+ghost use Rattle.cfg_laws.specs.Causes.{Exactly, IsListed, NamesNoBlock, IsSecond};
 
 /// UnknownRoute: at a route's name that a call gives, and that has no block.
 pub fn an_unknown_route_has_no_block()
     ensures { (raw : RawScript) (at : Place) → Exactly (IsListed raw UnknownRoute at) (NamesNoBlock raw at) }
+{}
+
+/// RouteTwice: at the name of each block before which one of the same kind and name stands, or at its first word.
+pub fn a_second_block_has_the_kind_and_name_of_an_earlier_one()
+    ensures { (raw : RawScript) (at : Place) → Exactly (IsListed raw RouteTwice at) (IsSecond raw at) }
 {}
