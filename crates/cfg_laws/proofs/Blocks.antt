@@ -163,3 +163,59 @@ module _ (at : Place) where
       λ s. all_from raw here (of_blocks (subst (λ bs. In here (block_refusals [] bs)) (sym s.order)
       (listed_again s.before [] s.block s.behind (block_name s.first) (mapped_block s.before s.first (in_from_contains s.first s.before s.is_before))
       (block_from (block_name s.block) (block_name s.first) (sym s.one_kind) (sym s.one_name)) s.place))))
+
+-- ---- no request route
+
+module _ (at : Place) where
+  abbrev end_here : Refusal
+  end_here = refusal NoRequestRoute at
+
+  end_of_no_body : IsOfNoBody end_here
+  end_of_no_body = record {
+    other = record {
+      function = apart 14 at UnknownFunction (λ n. omega (arith, n));
+      block = apart 14 at WrongBlock (λ n. omega (arith, n));
+      arguments = apart 14 at WrongArguments (λ n. omega (arith, n));
+      variable = apart 14 at UnknownVariable (λ n. omega (arith, n));
+    };
+    route = apart 14 at UnknownRoute (λ n. omega (arith, n));
+    written = apart 14 at NotWritable (λ n. omega (arith, n));
+    pattern = apart 14 at BadPattern (λ n. omega (arith, n));
+    limit = apart 14 at TooLarge (λ n. omega (arith, n));
+  }
+
+  of_the_end : (raw : RawScript) → Of_all raw end_here → In end_here (no_request raw (unnamed Request raw))
+  of_the_end raw (of_settings h) = absurd (settings_none end_here (apart 14 at BadParameter (λ n. omega (arith, n))) (apart 14 at TooLarge (λ n. omega (arith, n))) raw.items
+      (λ w there is e. apart 14 at UnknownModule (λ n. omega (arith, n)) w.at e) h)
+  of_the_end raw (of_blocks h) = absurd (blocks_none end_here (apart 14 at RouteTwice (λ n. omega (arith, n))) (apart 14 at TooLarge (λ n. omega (arith, n))) (blocks_of raw.items) [] h)
+  of_the_end raw (of_bodies h) = absurd (no_body end_here end_of_no_body raw h)
+  of_the_end raw (of_request h) = h
+
+  -- a block of that kind without a name
+  none_lacks : (raw : RawScript) → unnamed Request raw ≡ None → (b : RawBlock) → Contains (blocks_of raw.items) b → b.kind ≡ Begins Request → b.name ≡ None → ⊥
+  none_lacks raw e b there kind name =
+      position_none (is_same_block (Begins Request, None)) (known_of raw).blocks e (block_name b) (mapped_block (blocks_of raw.items) b (in_from_contains b (blocks_of raw.items) there))
+      (block_from (Begins Request, None) (block_name b) (sym kind) (sym (ap name_text name)))
+
+  nameless : (o : Option Word) → None ≡ name_text o → o ≡ None
+  nameless None e = refl
+  nameless (Some w) e = absurd (let f : None ≡ Some w.text = e in cc)
+
+  there_is : (raw : RawScript) (n : ℕ) → unnamed Request raw ≡ Some n → LacksRequest raw at → ⊥
+  there_is raw n e lacks =
+      let one = position_one (is_same_block (Begins Request, None)) (known_of raw).blocks n e in
+      let same = same_block (Begins Request, None) one.0 one.2 in
+      let b = block_mapped (blocks_of raw.items) one.0 one.1 in
+      lacks.lacks b.0 (contains_from_in b.0 (blocks_of raw.items) b.1) (ap (λ (x : Block). x.0) b.2 ∙ sym same.0) (nameless b.0.name (same.1 ∙ sym (ap (λ (x : Block). x.1) b.2)))
+
+  lacks_from : (raw : RawScript) (o : Option ℕ) → unnamed Request raw ≡ o → In end_here (no_request raw o) → LacksRequest raw at
+  lacks_from raw None e h = record { lacks = none_lacks raw e; place = sym (ap (λ (x : Refusal). x.at) (alone end_here _ h)) }
+  lacks_from raw (Some n) e h = absurd h
+
+  from_lacks : (raw : RawScript) (o : Option ℕ) → unnamed Request raw ≡ o → LacksRequest raw at → In end_here (no_request raw o)
+  from_lacks raw None e lacks = inl (ap (refusal NoRequestRoute) (sym lacks.place))
+  from_lacks raw (Some n) e lacks = absurd (there_is raw n e lacks)
+
+  pub no_requests : (raw : RawScript) → Exactly (IsListed raw NoRequestRoute at) (LacksRequest raw at)
+  no_requests raw =
+      (λ h. lacks_from raw (unnamed Request raw) refl (of_the_end raw (all_parts raw end_here h)), λ l. all_from raw end_here (of_request (from_lacks raw (unnamed Request raw) refl l)))

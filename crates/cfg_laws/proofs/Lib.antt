@@ -8,3 +8,4 @@ mod Targets
 mod Routes
 mod Apart
 mod Blocks
+mod Patterns

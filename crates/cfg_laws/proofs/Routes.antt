@@ -79,7 +79,7 @@ passes : (p : FuncName → Bool) (fs : List FuncName) (f : FuncName) → find p 
 passes p [] f e = absurd (let g : None ≡ Some f = e in cc)
 passes p (x ∷ fs) f e = by_test p x f (find p fs) (p x) refl e (passes p fs f)
 
-named_text : (text : List ℕ) (f : FuncName) → function_named text ≡ Some f → text ≡ (row f).name
+pub named_text : (text : List ℕ) (f : FuncName) → function_named text ≡ Some f → text ≡ (row f).name
 named_text text f e = (bytes_eq-Decides text (row f).name).0 (passes (λ g. bytes_eq text (row g).name) functions f e)
 
 -- ---- what a name of a block tells

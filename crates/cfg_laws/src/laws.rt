@@ -2,8 +2,8 @@
 
 ghost use Rattle.pv_values.specs.declared.refusal.Place.{Place};
 ghost use Rattle.cfg_tree.specs.declared.raw.RawScript.{RawScript};
-ghost use Rattle.cfg_tree.specs.declared.refusal_kind.RefusalKind.TheVariants.{UnknownRoute, RouteTwice};
-ghost use Rattle.cfg_laws.specs.Causes.{Exactly, IsListed, NamesNoBlock, IsSecond};
+ghost use Rattle.cfg_tree.specs.declared.refusal_kind.RefusalKind.TheVariants.{UnknownRoute, RouteTwice, BadPattern, NoRequestRoute};
+ghost use Rattle.cfg_laws.specs.Causes.{Exactly, IsListed, NamesNoBlock, IsSecond, IsNoPattern, LacksRequest};
 
 /// UnknownRoute: at a route's name that a call gives, and that has no block.
 pub fn an_unknown_route_has_no_block()
@@ -13,4 +13,14 @@ pub fn an_unknown_route_has_no_block()
 /// RouteTwice: at the name of each block before which one of the same kind and name stands, or at its first word.
 pub fn a_second_block_has_the_kind_and_name_of_an_earlier_one()
     ensures { (raw : RawScript) (at : Place) → Exactly (IsListed raw RouteTwice at) (IsSecond raw at) }
+{}
+
+/// NoRequestRoute: at the text's end, where no block is a request route.
+pub fn a_script_without_a_request_route_is_refused_at_its_end()
+    ensures { (raw : RawScript) (at : Place) → Exactly (IsListed raw NoRequestRoute at) (LacksRequest raw at) }
+{}
+
+/// BadPattern: at each string that is taken as a pattern, after `=~` or by a call, and is none of `regex`.
+pub fn a_bad_pattern_is_no_pattern()
+    ensures { (raw : RawScript) (at : Place) → Exactly (IsListed raw BadPattern at) (IsNoPattern raw at) }
 {}
