@@ -9,3 +9,5 @@ mod Routes
 mod Apart
 mod Blocks
 mod Patterns
+mod Firsts
+mod Modules
