@@ -38,14 +38,14 @@ or_right : (a b : Bool) → b ≡ true → (a || b) ≡ true
 or_right true b e = refl
 or_right false b e = e
 
-any_one : {X : Type 0} (p : X → Bool) (xs : List X) → list_any p xs ≡ true → (x : X) × In x xs × (p x ≡ true)
+pub any_one : {X : Type 0} (p : X → Bool) (xs : List X) → list_any p xs ≡ true → (x : X) × In x xs × (p x ≡ true)
 any_one p [] e = absurd (false≢true e)
 any_one p (x ∷ xs) e = elim (or_parts (p x) (list_any p xs) e) [
   | inl t ↦ (x, inl refl, t)
   | inr t ↦ let k = any_one p xs t in (k.0, inr k.1, k.2)
 ]
 
-one_any : {X : Type 0} (p : X → Bool) (xs : List X) (x : X) → In x xs → p x ≡ true → list_any p xs ≡ true
+pub one_any : {X : Type 0} (p : X → Bool) (xs : List X) (x : X) → In x xs → p x ≡ true → list_any p xs ≡ true
 one_any p [] x h t = absurd h
 one_any p (y ∷ ys) x (inl e) t = or_left (p y) (list_any p ys) (subst (λ z. p z ≡ true) (sym e) t)
 one_any p (y ∷ ys) x (inr h) t = or_right (p y) (list_any p ys) (one_any p ys x h t)

@@ -11,3 +11,5 @@ mod Blocks
 mod Patterns
 mod Firsts
 mod Modules
+mod Judged
+mod Unknowns

@@ -4,7 +4,8 @@ ghost use Rattle.std.specs.Prelude.{◌≡◌, ℕ};
 ghost use Rattle.cfg_tree.specs.Checks.{IsRefused};
 ghost use Rattle.pv_values.specs.declared.refusal.Place.{Place};
 ghost use Rattle.cfg_tree.specs.declared.raw.RawScript.{RawScript};
-ghost use Rattle.cfg_tree.specs.declared.refusal_kind.RefusalKind.TheVariants.{UnknownRoute, RouteTwice, BadPattern, NoRequestRoute, UnknownModule};
+ghost use Rattle.cfg_tree.specs.declared.refusal_kind.RefusalKind.TheVariants.{UnknownRoute, UnknownVariable, RouteTwice, BadPattern, NoRequestRoute, UnknownModule};
+ghost use Rattle.cfg_laws.specs.Known.{HasUnknown};
 ghost use Rattle.cfg_laws.specs.Causes.{Exactly, IsListed, NamesNoBlock, IsSecond, IsNoPattern, LacksRequest, LoadsAnother};
 
 /// UnknownRoute: at a route's name that a call gives, and that has no block.
@@ -36,4 +37,10 @@ pub fn an_unknown_module_is_another()
 pub fn a_tree_is_first_refused_with_one_kind_from_one_byte()
     ensures { (raw : RawScript) (kind : ℕ) (at : Place) (other : ℕ) (there : Place)
         → IsRefused raw kind at → IsRefused raw other there → (kind ≡ other) × (at.from ≡ there.from) }
+{}
+
+/// UnknownVariable: at each variable that isn't known, or whose key has one, or a transformation, that isn't; at each
+/// string that is expanded and has such a variable; and at each string that names a table that isn't there.
+pub fn an_unknown_variable_is_not_known()
+    ensures { (raw : RawScript) (at : Place) → Exactly (IsListed raw UnknownVariable at) (HasUnknown raw at) }
 {}
