@@ -30,10 +30,10 @@ pub apart : (n : ℕ) (at : Place) (kind : RefusalKind) → (refusal_number kind
 apart n at kind other p e = other (ap (λ (x : Refusal). x.kind) e)
 
 -- no block and no pattern is told of
-abbrev NoBlock : RouteKind → Word → Type 0
+abbrev pub NoBlock : RouteKind → Word → Type 0
 NoBlock kind w = ⊥
 
-abbrev NoPattern : Place → List ℕ → Type 0
+abbrev pub NoPattern : Place → List ℕ → Type 0
 NoPattern at source = ⊥
 
 nothing : (f : ArgForm) (args : List RawArg) → FormTells NoBlock NoPattern f args → ⊥
@@ -52,7 +52,7 @@ nothing (TakingRemovable make) args h = h
 nothing (Continuing make) args h = h.4
 nothing (Logging f) args h = h
 
-no_call : (c : RawCall) → CallTells NoBlock NoPattern c → ⊥
+pub no_call : (c : RawCall) → CallTells NoBlock NoPattern c → ⊥
 no_call (call.Function w args) h = nothing (row h.0).form args h.2
 no_call (call.Route w) h = h
 

@@ -13,3 +13,5 @@ mod Firsts
 mod Modules
 mod Judged
 mod Unknowns
+mod Values
+mod Written

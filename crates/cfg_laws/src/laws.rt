@@ -4,8 +4,9 @@ ghost use Rattle.std.specs.Prelude.{◌≡◌, ℕ};
 ghost use Rattle.cfg_tree.specs.Checks.{IsRefused};
 ghost use Rattle.pv_values.specs.declared.refusal.Place.{Place};
 ghost use Rattle.cfg_tree.specs.declared.raw.RawScript.{RawScript};
-ghost use Rattle.cfg_tree.specs.declared.refusal_kind.RefusalKind.TheVariants.{UnknownRoute, UnknownVariable, RouteTwice, BadPattern, NoRequestRoute, UnknownModule};
+ghost use Rattle.cfg_tree.specs.declared.refusal_kind.RefusalKind.TheVariants.{UnknownRoute, NotWritable, UnknownVariable, RouteTwice, BadPattern, NoRequestRoute, UnknownModule};
 ghost use Rattle.cfg_laws.specs.Known.{HasUnknown};
+ghost use Rattle.cfg_laws.specs.Written.{AssignsUnwritten};
 ghost use Rattle.cfg_laws.specs.Causes.{Exactly, IsListed, NamesNoBlock, IsSecond, IsNoPattern, LacksRequest, LoadsAnother};
 
 /// UnknownRoute: at a route's name that a call gives, and that has no block.
@@ -43,4 +44,9 @@ pub fn a_tree_is_first_refused_with_one_kind_from_one_byte()
 /// string that is expanded and has such a variable; and at each string that names a table that isn't there.
 pub fn an_unknown_variable_is_not_known()
     ensures { (raw : RawScript) (at : Place) → Exactly (IsListed raw UnknownVariable at) (HasUnknown raw at) }
+{}
+
+/// NotWritable: at each known variable that is assigned, and that a block of this kind may not assign.
+pub fn an_unwritten_variable_is_not_assigned()
+    ensures { (raw : RawScript) (at : Place) → Exactly (IsListed raw NotWritable at) (AssignsUnwritten raw at) }
 {}
