@@ -1,29 +1,26 @@
 -- A refusal of one kind is none of another, and the bodies of blocks have none of some kinds.
-use Rattle.std.proofs.Common.{◌≡◌, ℕ, List, [], ◌∷◌, Option, Some, None, ap, arith}
+use Rattle.std.proofs.Common.{◌≡◌, ℕ, List, Some, ap}
 use Rattle.std.specs.Prelude.{position}
 use Rattle.pv_values.specs.declared.refusal.Place.{Place}
 use Rattle.cfg_tree.specs.declared.raw.Word.{Word}
 use Rattle.cfg_tree.specs.declared.raw.RawCall.{RawCall}
 use Rattle.cfg_tree.specs.declared.raw.RawCall.TheVariants as call
 use Rattle.cfg_tree.specs.declared.raw.RawArg.{RawArg}
-use Rattle.cfg_tree.specs.declared.raw.RawBlock.{RawBlock}
 use Rattle.cfg_tree.specs.declared.raw.RawScript.{RawScript}
 use Rattle.cfg_tree.specs.declared.raw.RouteKind.{RouteKind}
-use Rattle.pv_values.specs.declared.function_name.FuncName.{FuncName}
 use Rattle.pv_values.specs.Kinds.{ArgForm, Plain, Expanding, ExpandingMaybe, ExpandingTwo, Replying, Counting, TakingText, TakingBlock, TakingPattern, TakingTable, TakingTablePattern, TakingRemovable, Continuing, Logging, row}
-use Rattle.cfg_tree.specs.Functions.{is_same_block, block_number, pattern_number}
+use Rattle.cfg_tree.specs.Functions.{is_same_block, block_number}
 use Rattle.cfg_tree.specs.Names.{Known}
-use Rattle.cfg_tree.specs.Checks.{call_in, body_in, bodies_of, known_of}
+use Rattle.cfg_tree.specs.Checks.{call_in, bodies_of, known_of}
 use Rattle.cfg_tree.specs.Refusals.{Refusal, refusal, accepted}
 use Rattle.cfg_tree.specs.RefusalKinds.{refusal_number}
 use Rattle.cfg_tree.specs.declared.refusal_kind.RefusalKind.{RefusalKind}
-use Rattle.cfg_tree.specs.declared.refusal_kind.RefusalKind.TheVariants.{UnknownRoute, UnknownVariable, NotWritable, BadPattern, TooLarge}
-use Rattle.cfg_laws.specs.Causes.{Leaf, Calls, body_leaves}
-use Rattle.cfg_laws.proofs.Telling.{In, Silent, Tells, same_tells, from_some_silent, accepted_silent}
+use Rattle.cfg_tree.specs.declared.refusal_kind.RefusalKind.TheVariants.{UnknownRoute, NotWritable, BadPattern, TooLarge}
+use Rattle.cfg_laws.proofs.Telling.{In, Silent, same_tells, from_some_silent, accepted_silent}
 use Rattle.cfg_laws.proofs.SilentNames.{part_of_silent}
 use Rattle.cfg_laws.proofs.Targets.{pattern_silent, target_silent}
 use Rattle.cfg_laws.proofs.Calling.{IsOther, FormTells, CallTells, call_tells}
-use Rattle.cfg_laws.proofs.Walk.{Some_of, Leaves, some_in, body_tells}
+use Rattle.cfg_laws.proofs.Walk.{body_tells}
 use Rattle.cfg_laws.proofs.Whole.{bodies_silent}
 
 pub apart : (n : ℕ) (at : Place) (kind : RefusalKind) → (refusal_number kind ≡ n → ⊥) → (p : Place) → refusal kind p ≡ record { kind = n; at = at } → ⊥

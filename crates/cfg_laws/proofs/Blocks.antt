@@ -1,6 +1,5 @@
 -- A second block of one kind and name, and a script without a request route.
-use Rattle.std.proofs.Common.{◌≡◌, ◌⊎◌, ℕ, ◌≤◌, nat_le, Bool, true, false, ◌||◌, if◌then◌else◌, List, [], ◌∷◌, ◌++◌, map, length, Option, Some, None, Contains, refl, sym, ap, ◌∙◌, subst, inl, inr, append_assoc, append-nil, arith}
-use Rattle.std.specs.Prelude.{position}
+use Rattle.std.proofs.Common.{◌≡◌, ◌⊎◌, ℕ, nat_le, Bool, true, false, ◌||◌, if◌then◌else◌, List, [], ◌∷◌, ◌++◌, map, length, Option, Some, None, Contains, refl, sym, ap, ◌∙◌, subst, inl, inr, append_assoc, append-nil, arith}
 use Rattle.std.specs.List.{list_any}
 use Rattle.std.proofs.lemmas.Bool.{false≢true}
 use Rattle.pv_values.specs.declared.refusal.Place.{Place}
@@ -81,32 +80,32 @@ module _ (at : Place) where
       elim (in_parts here (twice earlier b ++ too_many (length earlier) b) (block_refusals (earlier ++ block_name b ∷ []) bs) h) [
         | inl k ↦ elim (in_parts here (twice earlier b) (too_many (length earlier) b) k) [
           | inl l ↦
-            let t = if_in here (list_any (is_same_block (block_name b)) earlier) (refusal RouteTwice (name_place b.kind_at b.name)) l in
-            let one = any_one (is_same_block (block_name b)) earlier t.0 in
-            record {
-              before = [];
-              block = b;
-              behind = bs;
-              order = refl;
-              first = one.0;
-              is_before = in_front one.0 earlier [] one.1;
-              same = one.2;
-              place = sym (ap (λ (x : Refusal). x.at) t.1);
-            }
+              let t = if_in here (list_any (is_same_block (block_name b)) earlier) (refusal RouteTwice (name_place b.kind_at b.name)) l in
+              let one = any_one (is_same_block (block_name b)) earlier t.0 in
+              record {
+                before = [];
+                block = b;
+                behind = bs;
+                order = refl;
+                first = one.0;
+                is_before = in_front one.0 earlier [] one.1;
+                same = one.2;
+                place = sym (ap (λ (x : Refusal). x.at) t.1);
+              }
           | inr l ↦ absurd (if_none here (nat_le 1000 (length earlier)) (refusal TooLarge b.at) (apart 5 at TooLarge (λ n. omega (arith, n)) b.at) l)
         ]
         | inr k ↦
-          let rest = again (earlier ++ block_name b ∷ []) bs k in
-          record {
-            before = b ∷ rest.before;
-            block = rest.block;
-            behind = rest.behind;
-            order = ap (λ xs. b ∷ xs) rest.order;
-            first = rest.first;
-            is_before = subst (In rest.first) (append_assoc earlier (block_name b ∷ []) (map block_name rest.before)) rest.is_before;
-            same = rest.same;
-            place = rest.place;
-          }
+            let rest = again (earlier ++ block_name b ∷ []) bs k in
+            record {
+              before = b ∷ rest.before;
+              block = rest.block;
+              behind = rest.behind;
+              order = ap (λ xs. b ∷ xs) rest.order;
+              first = rest.first;
+              is_before = subst (In rest.first) (append_assoc earlier (block_name b ∷ []) (map block_name rest.before)) rest.is_before;
+              same = rest.same;
+              place = rest.place;
+            }
       ]
 
   listed_again : (before : List RawBlock) (earlier : List Block) (b : RawBlock) (behind : List RawBlock) (first : Block) → In first (earlier ++ map block_name before) →
@@ -158,11 +157,12 @@ module _ (at : Place) where
       }
 
   pub seconds : (raw : RawScript) → Exactly (IsListed raw RouteTwice at) (IsSecond raw at)
-  seconds raw =
-      (λ h. second_from raw (again [] (blocks_of raw.items) (among_blocks raw (all_parts raw here h))),
-      λ s. all_from raw here (of_blocks (subst (λ bs. In here (block_refusals [] bs)) (sym s.order)
-      (listed_again s.before [] s.block s.behind (block_name s.first) (mapped_block s.before s.first (in_from_contains s.first s.before s.is_before))
-      (block_from (block_name s.block) (block_name s.first) (sym s.one_kind) (sym s.one_name)) s.place))))
+  seconds raw = (
+    λ h. second_from raw (again [] (blocks_of raw.items) (among_blocks raw (all_parts raw here h))),
+    λ s. all_from raw here (of_blocks (subst (λ bs. In here (block_refusals [] bs)) (sym s.order)
+        (listed_again s.before [] s.block s.behind (block_name s.first) (mapped_block s.before s.first (in_from_contains s.first s.before s.is_before))
+        (block_from (block_name s.block) (block_name s.first) (sym s.one_kind) (sym s.one_name)) s.place))),
+  )
 
 -- ---- no request route
 

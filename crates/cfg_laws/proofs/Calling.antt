@@ -1,5 +1,5 @@
 -- What a call tells, by the form of its arguments: of the blocks and the patterns that it names, and of nothing else.
-use Rattle.std.proofs.Common.{◌≡◌, ◌⊎◌, ℕ, Bool, true, false, if◌then◌else◌, List, [], ◌∷◌, ◌++◌, Option, Some, None, refl, sym, ap, ◌∙◌, subst, inl, inr}
+use Rattle.std.proofs.Common.{◌≡◌, ◌⊎◌, ℕ, Bool, true, false, if◌then◌else◌, List, [], ◌∷◌, Option, Some, None, refl, sym, ap, ◌∙◌, subst, inl, inr}
 use Rattle.std.specs.List.{list_any}
 use Rattle.std.specs.Str.{str_eq_ignore_ascii_case}
 use Rattle.pv_values.specs.declared.refusal.Place.{Place}
@@ -16,7 +16,7 @@ use Rattle.cfg_tree.specs.declared.raw.RouteKind.TheVariants.{Route, Begins}
 use Rattle.cfg_tree.specs.declared.script.Expr.TheOpen.{Expr-F}
 use Rattle.cfg_tree.specs.declared.script.Expr.TheViews.{roll-Expr}
 use Rattle.cfg_tree.specs.Names.{Known, table_and_key}
-use Rattle.cfg_tree.specs.Functions.{FuncWith, expanded_arg, literal, between, number_arg, block_number, table_number, pattern_number, no_arg, one_arg, two_args, three_args, plain, expanding, expanding_two, expanding_maybe, replying, counting, with_literal, needed_fields, logging, continuing, reads, form, may_stand, function_call}
+use Rattle.cfg_tree.specs.Functions.{FuncWith, expanded_arg, literal, between, number_arg, block_number, table_number, pattern_number, no_arg, one_arg, two_args, expanding, expanding_maybe, with_literal, needed_fields, logging, continuing, reads, form, may_stand, function_call}
 use Rattle.cfg_tree.specs.Checks.{call_in}
 use Rattle.cfg_tree.specs.Refusals.{Refusal, refusal, Checked, accepted, refused, one, both, from_some, unless}
 use Rattle.cfg_tree.specs.declared.refusal_kind.RefusalKind.TheVariants.{UnknownFunction, WrongBlock, WrongArguments, UnknownVariable}

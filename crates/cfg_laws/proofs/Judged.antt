@@ -1,9 +1,9 @@
 -- A variable or an expanded text is refused UnknownVariable exactly where it isn't known, and at its own place.
 use Rattle.std.proofs.Common.{◌≡◌, ◌⊎◌, ℕ, zero, suc, ◌-◌, Bool, true, false, ◌&&◌, ◌||◌, if◌then◌else◌, List, [], ◌∷◌, ◌++◌, map, length, Option, Some, None, refl, sym, ap, ◌∙◌, subst, inl, inr}
 use Rattle.std.specs.Prelude.{position, codes}
-use Rattle.std.specs.List.{list_any, list_all}
+use Rattle.std.specs.List.{list_all}
 use Rattle.std.specs.Str.{bytes_eq}
-use Rattle.std.proofs.lemmas.Bool.{false≢true, true≢false}
+use Rattle.std.proofs.lemmas.Bool.{true≢false}
 use Rattle.pv_values.specs.declared.refusal.Place.{Place}
 use Rattle.pv_values.specs.declared.variable.PvUse.{PvUse}
 use Rattle.pv_values.specs.declared.variable.PvUse.TheVariants as pv
@@ -14,10 +14,10 @@ use Rattle.cfg_tree.specs.declared.script.Part.TheOpen.{Part-F}
 use Rattle.cfg_tree.specs.declared.script.Part.TheViews.{roll-Part}
 use Rattle.cfg_tree.specs.Variables.{Piece, Plain, Of, pieces_of}
 use Rattle.cfg_tree.specs.Names.{Known, named, host_names, table_names, suspension_names, transformation_names, var_number, some_text, avp_name, table_and_key, Layer, host_layer, item_layer, bare_layer, inner_layer, untransformed, transformed_layer, layer_by, piece_part, plain_part, expansion_within, max_nested, expansion, layer_of, part_of}
-use Rattle.cfg_tree.specs.Refusals.{Refusal, refusal, Seen, Outcome, Checked, accepted, refused, one, both, each, from_some}
+use Rattle.cfg_tree.specs.Refusals.{Refusal, refusal, Seen, Outcome, Checked, accepted, refused, both, each, from_some}
 use Rattle.cfg_tree.specs.declared.refusal_kind.RefusalKind.TheVariants.{UnknownVariable}
-use Rattle.cfg_laws.specs.Known.{among, there, brackets_known, word_known, transformation_known, variable_known, piece_known, is_bytes, text_known, table_words}
-use Rattle.cfg_laws.proofs.Telling.{In, alone, Tells, Silent, same_tells, accepted_silent, refused_tells, one_tells, both_tells}
+use Rattle.cfg_laws.specs.Known.{among, there, brackets_known, word_known, transformation_known, variable_known, piece_known, is_bytes, text_known}
+use Rattle.cfg_laws.proofs.Telling.{In, Tells, same_tells, accepted_silent, refused_tells, one_tells, both_tells}
 use Rattle.cfg_laws.proofs.Positions.{position_none, position_one}
 use Rattle.cfg_laws.proofs.Blocks.{any_one, one_any}
 

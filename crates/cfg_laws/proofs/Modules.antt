@@ -1,5 +1,5 @@
 -- A script that loads another module.
-use Rattle.std.proofs.Common.{◌≡◌, ◌⊎◌, ℕ, Bool, true, false, if◌then◌else◌, List, [], ◌∷◌, ◌++◌, refl, sym, ap, ◌∙◌, subst, inl, inr, arith}
+use Rattle.std.proofs.Common.{◌≡◌, Bool, true, false, if◌then◌else◌, List, [], ◌∷◌, sym, ap, subst, inl, inr, arith}
 use Rattle.std.proofs.lemmas.Bool.{false≢true}
 use Rattle.pv_values.specs.declared.refusal.Place.{Place}
 use Rattle.pv_values.specs.declared.block.BlockKind.TheVariants.{Request}
@@ -60,6 +60,7 @@ module _ (at : Place) where
   loaded_in w is place (i ∷ more) s (inr h) = in_back here (item_step i s).1 (settings_behind (item_step i s).0 more).1 (loaded_in w is place more (item_step i s).0 h)
 
   pub other_modules : (raw : RawScript) → Exactly (IsListed raw UnknownModule at) (LoadsAnother raw at)
-  other_modules raw =
-      (λ h. another_from raw (among_settings raw (all_parts raw here h)),
-      λ l. all_from raw here (of_settings (loaded_in l.word l.another l.place raw.items unset (in_from_contains (item.Module l.word) raw.items l.is_loaded))))
+  other_modules raw = (
+    λ h. another_from raw (among_settings raw (all_parts raw here h)),
+    λ l. all_from raw here (of_settings (loaded_in l.word l.another l.place raw.items unset (in_from_contains (item.Module l.word) raw.items l.is_loaded))),
+  )

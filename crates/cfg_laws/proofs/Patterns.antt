@@ -1,6 +1,6 @@
 -- A text that is taken as a pattern and is none.
-use Rattle.std.proofs.Common.{◌≡◌, ◌⊎◌, ℕ, Bool, true, false, not, nat_le, if◌then◌else◌, List, [], ◌∷◌, ◌++◌, length, Option, Some, None, Contains, refl, sym, ap, ◌∙◌, subst, inl, inr, arith}
-use Rattle.std.specs.Prelude.{position, codes}
+use Rattle.std.proofs.Common.{◌≡◌, ℕ, Bool, true, false, not, nat_le, if◌then◌else◌, List, [], ◌∷◌, ◌++◌, length, Some, refl, sym, ap, ◌∙◌, subst, inl, arith}
+use Rattle.std.specs.Prelude.{position}
 use Rattle.std.proofs.lemmas.Bool.{false≢true}
 use Rattle.pv_values.specs.Matching.{is_pattern}
 use Rattle.pv_values.specs.Kinds.{row, function_named}
@@ -9,18 +9,16 @@ use Rattle.pv_values.specs.declared.function_name.FuncName.{FuncName}
 use Rattle.pv_values.specs.declared.function_name.FuncName.TheVariants as name
 use Rattle.cfg_tree.specs.declared.raw.Word.{Word}
 use Rattle.cfg_tree.specs.declared.raw.RawArg.{RawArg}
-use Rattle.cfg_tree.specs.declared.raw.RawArg.TheVariants as arg
 use Rattle.cfg_tree.specs.declared.raw.RawCall.{RawCall}
 use Rattle.cfg_tree.specs.declared.raw.RawCall.TheVariants as call
 use Rattle.cfg_tree.specs.declared.raw.RawBlock.{RawBlock}
 use Rattle.cfg_tree.specs.declared.raw.RawScript.{RawScript}
 use Rattle.cfg_tree.specs.declared.raw.RouteKind.{RouteKind}
 use Rattle.cfg_tree.specs.Functions.{is_same_block, block_number, pattern_number}
-use Rattle.cfg_tree.specs.Names.{Known, table_and_key}
 use Rattle.cfg_tree.specs.Checks.{body_in, known_of}
 use Rattle.cfg_tree.specs.Refusals.{Refusal, refusal, Seen, Outcome, accepted, refused}
 use Rattle.cfg_tree.specs.declared.refusal_kind.RefusalKind.TheVariants.{UnknownRoute, RouteTwice, UnknownFunction, WrongBlock, WrongArguments, UnknownVariable, NotWritable, BadParameter, BadPattern, TooLarge, NoRequestRoute, UnknownModule}
-use Rattle.cfg_laws.specs.Causes.{Exactly, IsListed, Leaf, Calls, Reads, Matches, Assigns, Stands, TakesPattern, of_status, of_keys, HasPattern, compared, taken, IsNoPattern, body_leaves}
+use Rattle.cfg_laws.specs.Causes.{Exactly, IsListed, Leaf, Calls, Reads, Matches, Assigns, TakesPattern, of_status, of_keys, HasPattern, compared, taken, IsNoPattern, body_leaves}
 use Rattle.cfg_laws.proofs.Telling.{In, alone, Tells, Silent, accepted_silent, from_some_silent}
 use Rattle.cfg_laws.proofs.SilentNames.{part_of_silent}
 use Rattle.cfg_laws.proofs.Targets.{target_silent}

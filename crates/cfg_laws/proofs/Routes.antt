@@ -1,6 +1,6 @@
 -- A route's name that has no block.
-use Rattle.std.proofs.Common.{◌≡◌, ◌⊎◌, ℕ, Bool, true, false, cond, List, [], ◌∷◌, ◌++◌, map, length, Option, Some, None, Contains, refl, sym, ap, ◌∙◌, subst, inl, inr, arith}
-use Rattle.std.specs.Prelude.{position, codes}
+use Rattle.std.proofs.Common.{◌≡◌, ℕ, Bool, true, false, cond, List, [], ◌∷◌, map, Option, Some, None, refl, sym, ap, ◌∙◌, subst, inl, inr, arith}
+use Rattle.std.specs.Prelude.{position}
 use Rattle.std.specs.List.{find}
 use Rattle.std.specs.Str.{bytes_eq}
 use Rattle.std.proofs.lemmas.Slice.Eq.{bytes_eq-Decides}
@@ -10,9 +10,7 @@ use Rattle.pv_values.specs.declared.refusal.Place.{Place}
 use Rattle.pv_values.specs.declared.function_name.FuncName.{FuncName}
 use Rattle.pv_values.specs.declared.function_name.FuncName.TheVariants as name
 use Rattle.cfg_tree.specs.declared.raw.Word.{Word}
-use Rattle.cfg_tree.specs.declared.raw.RawVariable.{RawVariable}
 use Rattle.cfg_tree.specs.declared.raw.RawArg.{RawArg}
-use Rattle.cfg_tree.specs.declared.raw.RawArg.TheVariants as arg
 use Rattle.cfg_tree.specs.declared.raw.RawCall.{RawCall}
 use Rattle.cfg_tree.specs.declared.raw.RawCall.TheVariants as call
 use Rattle.cfg_tree.specs.declared.raw.RawBlock.{RawBlock}
@@ -20,19 +18,18 @@ use Rattle.cfg_tree.specs.declared.raw.RawScript.{RawScript}
 use Rattle.cfg_tree.specs.declared.raw.RouteKind.{RouteKind}
 use Rattle.cfg_tree.specs.declared.raw.RouteKind.TheVariants.{Route, Begins}
 use Rattle.cfg_tree.specs.Functions.{is_same_block, block_number, pattern_number}
-use Rattle.cfg_tree.specs.Names.{Known, part_of}
-use Rattle.cfg_tree.specs.Checks.{call_in, target_of, body_in, blocks_of, block_name, known_of}
-use Rattle.cfg_tree.specs.Refusals.{Refusal, refusal, Checked, accepted, from_some}
+use Rattle.cfg_tree.specs.Checks.{body_in, blocks_of, block_name, known_of}
+use Rattle.cfg_tree.specs.Refusals.{Refusal, refusal, accepted, from_some}
 use Rattle.cfg_tree.specs.RefusalKinds.{refusal_number}
 use Rattle.cfg_tree.specs.declared.refusal_kind.RefusalKind.{RefusalKind}
 use Rattle.cfg_tree.specs.declared.refusal_kind.RefusalKind.TheVariants.{UnknownRoute, RouteTwice, UnknownFunction, WrongBlock, WrongArguments, UnknownVariable, NotWritable, BadParameter, BadPattern, TooLarge, NoRequestRoute, UnknownModule}
-use Rattle.cfg_laws.specs.Causes.{Exactly, IsListed, Leaf, Calls, Reads, Matches, Assigns, Stands, HasBlock, NamesRoute, by_route, on_branch, on_failure, on_reply, continues, NamesNoBlock, body_leaves}
+use Rattle.cfg_laws.specs.Causes.{Exactly, IsListed, Leaf, Calls, Reads, Matches, Assigns, HasBlock, NamesRoute, by_route, on_branch, on_failure, on_reply, continues, NamesNoBlock, body_leaves}
 use Rattle.cfg_laws.proofs.Telling.{In, in_from_contains, contains_from_in, Tells, Silent, same_tells, from_some_tells, accepted_silent}
 use Rattle.cfg_laws.proofs.Positions.{position_none, position_one, same_block, block_from}
 use Rattle.cfg_laws.proofs.SilentNames.{part_of_silent}
 use Rattle.cfg_laws.proofs.Calling.{IsOther, FormTells, CallTells, call_tells}
 use Rattle.cfg_laws.proofs.Targets.{pattern_silent, target_silent}
-use Rattle.cfg_laws.proofs.Walk.{Some_of, Leaves, body_tells}
+use Rattle.cfg_laws.proofs.Walk.{Leaves, body_tells}
 use Rattle.cfg_laws.proofs.Whole.{IsOfBodies, StandsThere, stands_listed}
 
 -- ---- a block of a kind and name

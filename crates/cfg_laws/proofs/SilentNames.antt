@@ -18,7 +18,7 @@ use Rattle.cfg_tree.specs.Names.{Known, named, host_names, table_names, suspensi
 use Rattle.cfg_tree.specs.Functions.{table_number, expanded_arg}
 use Rattle.cfg_tree.specs.Refusals.{Refusal, refusal, Seen, Outcome, Checked, accepted, from_some}
 use Rattle.cfg_tree.specs.declared.refusal_kind.RefusalKind.TheVariants.{UnknownVariable}
-use Rattle.cfg_laws.proofs.Telling.{In, Tells, Silent, accepted_silent, refused_silent, one_tells, both_silent, each_silent, from_some_silent, if_silent}
+use Rattle.cfg_laws.proofs.Telling.{In, Silent, accepted_silent, refused_silent, one_tells, both_silent, each_silent, from_some_silent, if_silent}
 
 -- the number of a name, by its place
 placed : List ℕ → Seen → Option ℕ → Outcome ℕ

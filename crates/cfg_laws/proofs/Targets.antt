@@ -1,16 +1,15 @@
 -- Of a pattern and of an assigned variable no refusals of other kinds are read.
-use Rattle.std.proofs.Common.{◌≡◌, ◌⊎◌, ℕ, Bool, true, false, not, nat_le, if◌then◌else◌, List, [], ◌∷◌, ◌++◌, length, Option, Some, None, refl, inl, inr}
+use Rattle.std.proofs.Common.{◌≡◌, ℕ, not, nat_le, List, [], ◌∷◌, length, Option, Some, None, inl, inr}
 use Rattle.pv_values.specs.Matching.{is_pattern}
 use Rattle.pv_values.specs.declared.refusal.Place.{Place}
 use Rattle.cfg_tree.specs.declared.raw.RawVariable.{RawVariable}
 use Rattle.cfg_tree.specs.declared.raw.RouteKind.{RouteKind}
-use Rattle.cfg_tree.specs.declared.script.Target.{Target}
 use Rattle.cfg_tree.specs.Names.{Known, layer_of}
 use Rattle.cfg_tree.specs.Functions.{pattern_number}
 use Rattle.cfg_tree.specs.Checks.{target_in, found_as, found, target_of}
-use Rattle.cfg_tree.specs.Refusals.{Refusal, refusal, Seen, Outcome, Checked}
+use Rattle.cfg_tree.specs.Refusals.{Refusal, refusal, Seen}
 use Rattle.cfg_tree.specs.declared.refusal_kind.RefusalKind.TheVariants.{UnknownVariable, NotWritable, BadPattern, TooLarge}
-use Rattle.cfg_laws.proofs.Telling.{In, in_parts, alone, Tells, Silent, in_if}
+use Rattle.cfg_laws.proofs.Telling.{In, in_parts, alone, Silent, in_if}
 use Rattle.cfg_laws.proofs.SilentNames.{layer_of_silent}
 
 module _ (r : Refusal) where

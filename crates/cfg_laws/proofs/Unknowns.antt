@@ -1,5 +1,5 @@
 -- What isn't known, in a call and elsewhere.
-use Rattle.std.proofs.Common.{◌≡◌, ◌⊎◌, ℕ, Bool, true, false, not, nat_le, if◌then◌else◌, List, [], ◌∷◌, ◌++◌, length, Option, Some, None, refl, sym, ap, ◌∙◌, subst, inl, inr, arith}
+use Rattle.std.proofs.Common.{◌≡◌, ◌⊎◌, ℕ, Bool, true, false, if◌then◌else◌, List, [], ◌∷◌, Option, Some, None, refl, sym, ap, ◌∙◌, subst, inl, inr, arith}
 use Rattle.std.specs.Prelude.{position}
 use Rattle.std.specs.List.{list_any}
 use Rattle.std.specs.Fmt.{signed_decimal}
@@ -23,18 +23,18 @@ use Rattle.cfg_tree.specs.declared.script.Part.TheViews.{roll-Part}
 use Rattle.cfg_tree.specs.declared.script.Expr.TheOpen.{Expr-F}
 use Rattle.cfg_tree.specs.declared.script.Expr.TheViews.{roll-Expr}
 use Rattle.cfg_tree.specs.Names.{Known, table_and_key, layer_of, part_of}
-use Rattle.cfg_tree.specs.Functions.{FuncWith, is_same_block, expanded_arg, literal, between, number_arg, block_number, table_number, pattern_number, no_arg, one_arg, two_args, three_args, expanding, expanding_maybe, with_literal, needed_fields, logging, continuing, reads, form, may_stand, function_call}
+use Rattle.cfg_tree.specs.Functions.{FuncWith, is_same_block, expanded_arg, between, number_arg, block_number, table_number, pattern_number, no_arg, one_arg, two_args, expanding, expanding_maybe, with_literal, needed_fields, logging, continuing, reads, form, may_stand, function_call}
 use Rattle.cfg_tree.specs.Checks.{call_in, target_in, found_as, found, target_of, body_in, known_of}
 use Rattle.cfg_tree.specs.Refusals.{Refusal, refusal, Seen, Checked, accepted, refused, one, both, from_some, unless}
 use Rattle.cfg_tree.specs.declared.refusal_kind.RefusalKind.TheVariants.{UnknownRoute, RouteTwice, UnknownFunction, WrongBlock, WrongArguments, UnknownVariable, NotWritable, BadParameter, BadPattern, TooLarge, NoRequestRoute, UnknownModule}
-use Rattle.cfg_laws.specs.Causes.{Exactly, IsListed, Leaf, Calls, Reads, Matches, Assigns, Stands, body_leaves}
+use Rattle.cfg_laws.specs.Causes.{Exactly, IsListed, Calls, Assigns, body_leaves}
 use Rattle.cfg_laws.specs.Known.{among, ArgUnknown, TableUnknown, FormUnknown, LeafUnknown, HasUnknown}
-use Rattle.cfg_laws.proofs.Telling.{In, in_front, in_parts, alone, Tells, Silent, same_tells, accepted_silent, refused_silent, one_tells, both_tells, both_silent, from_some_silent, unless_tells, if_silent}
+use Rattle.cfg_laws.proofs.Telling.{In, in_front, in_parts, alone, Tells, Silent, same_tells, accepted_silent, refused_silent, one_tells, both_tells, from_some_silent, unless_tells, if_silent}
 use Rattle.cfg_laws.proofs.Targets.{pattern_silent}
 use Rattle.cfg_laws.proofs.Judged.{expansion_judged, layer_of_judged, part_of_judged, place_judged, accepted_judged, and_true}
 use Rattle.cfg_laws.proofs.Apart.{apart}
 use Rattle.cfg_laws.proofs.Walk.{Leaves, body_tells}
-use Rattle.cfg_laws.proofs.Whole.{IsOfBodies, StandsThere, stands_listed}
+use Rattle.cfg_laws.proofs.Whole.{IsOfBodies, stands_listed}
 
 first_arg : List RawArg → RawArg → RawArg
 first_arg [] d = d

@@ -14,22 +14,20 @@ use Rattle.cfg_tree.specs.declared.raw.RawStmt.{RawStmt}
 use Rattle.cfg_tree.specs.declared.raw.RawStmt.TheOpen.{RawStmt-F}
 use Rattle.cfg_tree.specs.declared.raw.RawStmt.TheViews.{roll-RawStmt}
 use Rattle.cfg_tree.specs.declared.raw.RawStmt.TheFolds.{fold-roll-RawStmt, ind-RawStmt, map-RawStmt}
-use Rattle.cfg_tree.specs.declared.raw.RawBlock.{RawBlock}
 use Rattle.cfg_tree.specs.declared.raw.RouteKind.{RouteKind}
 use Rattle.cfg_tree.specs.declared.script.Expr.{Expr}
 use Rattle.cfg_tree.specs.declared.script.Expr.TheOpen.{Expr-F}
 use Rattle.cfg_tree.specs.declared.script.Expr.TheViews.{roll-Expr}
-use Rattle.cfg_tree.specs.declared.script.Target.{Target}
 use Rattle.cfg_tree.specs.declared.script.Stmt.{Stmt}
 use Rattle.cfg_tree.specs.declared.script.Stmt.TheOpen.{Stmt-F}
 use Rattle.cfg_tree.specs.declared.script.Stmt.TheViews.{roll-Stmt}
 use Rattle.cfg_tree.specs.Names.{Known, part_of}
 use Rattle.cfg_tree.specs.Functions.{pattern_number}
-use Rattle.cfg_tree.specs.Checks.{call_in, myself, expr_step, expr_in, target_of, numbered, flat, all_in, maybe_expr, stmt_step, stmt_in, body_in, bodies_in}
-use Rattle.cfg_tree.specs.Refusals.{Refusal, refusal, Seen, Checked, accepted, one, both, each}
+use Rattle.cfg_tree.specs.Checks.{call_in, myself, expr_step, expr_in, target_of, numbered, flat, all_in, maybe_expr, stmt_step, stmt_in}
+use Rattle.cfg_tree.specs.Refusals.{Refusal, refusal, Checked, accepted, one, both, each}
 use Rattle.cfg_tree.specs.declared.refusal_kind.RefusalKind.TheVariants.{TooLarge}
-use Rattle.cfg_laws.specs.Causes.{Leaf, Calls, Reads, Matches, Assigns, joined, expr_leaves_step, expr_leaves, maybe_leaves, other_leaves, stmt_leaves_step, stmt_leaves, body_leaves}
-use Rattle.cfg_laws.proofs.Telling.{In, in_front, in_back, in_parts, Tells, same_tells, accepted_silent, one_tells, both_tells, three_tells, unless_tells}
+use Rattle.cfg_laws.specs.Causes.{Leaf, Calls, Reads, Matches, Assigns, joined, expr_leaves_step, expr_leaves, maybe_leaves, stmt_leaves_step, stmt_leaves}
+use Rattle.cfg_laws.proofs.Telling.{In, Tells, same_tells, accepted_silent, one_tells, both_tells, unless_tells}
 
 -- ---- one of what stands there
 

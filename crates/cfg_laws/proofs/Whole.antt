@@ -1,25 +1,22 @@
 -- A refusal of a tree is told by what stands in its blocks, or it is one of its settings, of its blocks' names, or of their number.
-use Rattle.std.proofs.Common.{◌≡◌, ◌⊎◌, ℕ, Bool, true, false, nat_le, if◌then◌else◌, List, [], ◌∷◌, ◌++◌, map, length, Option, Some, None, Contains, refl, sym, ap, ◌∙◌, subst, inl, inr}
+use Rattle.std.proofs.Common.{◌≡◌, ◌⊎◌, ℕ, Bool, true, false, nat_le, if◌then◌else◌, List, [], ◌∷◌, ◌++◌, length, Option, Some, None, Contains, refl, sym, subst, inl, inr}
 use Rattle.std.specs.List.{list_any}
 use Rattle.pv_values.specs.declared.refusal.Place.{Place}
 use Rattle.pv_values.specs.declared.block.BlockKind.TheVariants.{Request}
 use Rattle.cfg_tree.specs.declared.raw.Word.{Word}
-use Rattle.cfg_tree.specs.declared.raw.RawStmt.{RawStmt}
 use Rattle.cfg_tree.specs.declared.raw.RawBlock.{RawBlock}
 use Rattle.cfg_tree.specs.declared.raw.RawItem.{RawItem}
 use Rattle.cfg_tree.specs.declared.raw.RawItem.TheVariants as item
 use Rattle.cfg_tree.specs.declared.raw.RawScript.{RawScript}
 use Rattle.cfg_tree.specs.declared.raw.RouteKind.{RouteKind}
-use Rattle.cfg_tree.specs.declared.script.Stmt.{Stmt}
 use Rattle.cfg_tree.specs.Names.{Known}
 use Rattle.cfg_tree.specs.Functions.{is_same_block}
 use Rattle.cfg_tree.specs.Settings.{Settings, unset, is_module, set_or_refused, table_limit, within_tables, item_step, settings_behind, setting_refusals, with_parameter, with_module_parameter}
 use Rattle.cfg_tree.specs.Checks.{body_in, bodies_in, bodies_of, blocks_of, block_name, name_place, twice, too_many, block_refusals, known_of, nothing_seen, unnamed, no_request, refusals_of}
-use Rattle.cfg_tree.specs.Refusals.{Refusal, refusal, Seen, Checked, accepted, each}
-use Rattle.cfg_tree.specs.declared.refusal_kind.RefusalKind.{RefusalKind}
+use Rattle.cfg_tree.specs.Refusals.{Refusal, refusal}
 use Rattle.cfg_tree.specs.declared.refusal_kind.RefusalKind.TheVariants.{RouteTwice, BadParameter, TooLarge, NoRequestRoute, UnknownModule}
 use Rattle.cfg_laws.specs.Causes.{Leaf, Stands, body_leaves}
-use Rattle.cfg_laws.proofs.Telling.{In, in_front, in_back, in_parts, in_from_contains, contains_from_in, alone, Tells, accepted_silent, both_tells, same_tells}
+use Rattle.cfg_laws.proofs.Telling.{In, in_front, in_back, in_parts, in_from_contains, contains_from_in, alone, Tells, accepted_silent, both_tells}
 use Rattle.cfg_laws.proofs.Walk.{Some_of, some_in, in_some, Leaves}
 
 -- ---- the bodies of blocks
@@ -52,13 +49,17 @@ StandsThere raw P = (kind : RouteKind) × (leaf : Leaf) × Stands raw kind leaf 
 stands_in : (raw : RawScript) (P : RouteKind → Leaf → Type 0) → InBlocks P (blocks_of raw.items) → StandsThere raw P
 stands_in raw P h =
     let b = block_in P (blocks_of raw.items) h in
-    let l = some_in (P b.0.kind) (body_leaves b.0) b.2 in
-    (b.0.kind, l.0, record {
-      block = b.0;
-      is_there = contains_from_in b.0 (blocks_of raw.items) b.1;
-      kind_is = refl;
-      is_in_it = contains_from_in l.0 (body_leaves b.0) l.1;
-    }, l.2)
+    let l = some_in (P b.0.kind) (body_leaves b.0) b.2 in (
+      b.0.kind,
+      l.0,
+      record {
+        block = b.0;
+        is_there = contains_from_in b.0 (blocks_of raw.items) b.1;
+        kind_is = refl;
+        is_in_it = contains_from_in l.0 (body_leaves b.0) l.1;
+      },
+      l.2,
+    )
 
 in_stands : (raw : RawScript) (P : RouteKind → Leaf → Type 0) → StandsThere raw P → InBlocks P (blocks_of raw.items)
 in_stands raw P h =

@@ -1,9 +1,8 @@
 -- A known variable that the block may not assign.
-use Rattle.std.proofs.Common.{◌≡◌, ◌⊎◌, ℕ, Bool, true, false, ◌&&◌, ◌||◌, if◌then◌else◌, List, [], ◌∷◌, ◌++◌, map, Option, Some, None, is_some, refl, sym, ap, ◌∙◌, subst, inl, inr, arith}
+use Rattle.std.proofs.Common.{◌≡◌, ℕ, Bool, true, false, ◌&&◌, if◌then◌else◌, List, [], ◌∷◌, Option, Some, None, is_some, refl, sym, ap, ◌∙◌, subst, inl, inr, arith}
 use Rattle.std.specs.Prelude.{position, codes, option_map}
-use Rattle.std.specs.List.{list_all}
 use Rattle.std.specs.Str.{bytes_eq}
-use Rattle.std.proofs.lemmas.Bool.{false≢true, true≢false}
+use Rattle.std.proofs.lemmas.Bool.{true≢false}
 use Rattle.std.proofs.lemmas.Slice.Eq.{bytes_eq-Decides}
 use Rattle.pv_values.specs.declared.block.BlockKind.TheVariants.{Request, Branch, Failure, Reply, Event}
 use Rattle.pv_values.specs.declared.refusal.Place.{Place}
@@ -26,12 +25,12 @@ use Rattle.cfg_tree.specs.declared.script.Part.TheViews.{roll-Part}
 use Rattle.cfg_tree.specs.declared.script.Target.{Target}
 use Rattle.cfg_tree.specs.declared.script.Target.TheVariants as target
 use Rattle.cfg_tree.specs.Meaning.{item_of}
-use Rattle.cfg_tree.specs.Names.{Known, named, host_names, table_names, suspension_names, transformation_names, var_number, some_text, avp_name, table_and_key, Layer, host_layer, item_layer, bare_layer, inner_layer, untransformed, transformed_layer, layer_by, expansion_within, max_nested, layer_of}
+use Rattle.cfg_tree.specs.Names.{Known, named, host_names, table_names, suspension_names, transformation_names, var_number, some_text, avp_name, table_and_key, Layer, host_layer, item_layer, bare_layer, inner_layer, untransformed, transformed_layer, expansion_within, layer_of}
 use Rattle.cfg_tree.specs.Functions.{is_same_block, block_number, pattern_number}
 use Rattle.cfg_tree.specs.Checks.{may_write, target_in, found_as, found, target_of, call_in, body_in, known_of}
-use Rattle.cfg_tree.specs.Refusals.{Refusal, refusal, Seen, Outcome, Checked, accepted, refused, join, one, both, from_some}
+use Rattle.cfg_tree.specs.Refusals.{Refusal, refusal, Seen, Checked, accepted, refused, join, one, from_some}
 use Rattle.cfg_tree.specs.declared.refusal_kind.RefusalKind.TheVariants.{UnknownRoute, RouteTwice, UnknownFunction, WrongBlock, WrongArguments, UnknownVariable, NotWritable, BadParameter, BadPattern, TooLarge, NoRequestRoute, UnknownModule}
-use Rattle.cfg_laws.specs.Causes.{Exactly, IsListed, Leaf, Calls, Reads, Matches, Assigns, Stands, body_leaves}
+use Rattle.cfg_laws.specs.Causes.{Exactly, IsListed, Leaf, Calls, Reads, Matches, Assigns, body_leaves}
 use Rattle.cfg_laws.specs.Known.{among, variable_is_known}
 use Rattle.cfg_laws.specs.Written.{changes_request, has_message, target_words, item_words, word_written, form_written, variable_written, AssignsUnwritten}
 use Rattle.cfg_laws.proofs.Telling.{In, in_parts, in_back, alone, Tells, Silent, same_tells, accepted_silent, from_some_silent}
@@ -39,7 +38,7 @@ use Rattle.cfg_laws.proofs.SilentNames.{layer_of_silent, part_of_silent}
 use Rattle.cfg_laws.proofs.Targets.{pattern_silent}
 use Rattle.cfg_laws.proofs.Calling.{IsOther, call_tells}
 use Rattle.cfg_laws.proofs.Apart.{apart, NoBlock, NoPattern, no_call}
-use Rattle.cfg_laws.proofs.Values.{Is, Has, layer_of_has}
+use Rattle.cfg_laws.proofs.Values.{Is, layer_of_has}
 use Rattle.cfg_laws.proofs.Walk.{Leaves, body_tells}
 use Rattle.cfg_laws.proofs.Whole.{IsOfBodies, StandsThere, stands_listed}
 
@@ -204,8 +203,12 @@ module _ (kind : RouteKind) where
       (if_lays kind (bytes_eq name (codes "hdr")) _ _ _ _ (some_lays kind (some_text inner) p _ false (λ n. host_lays kind (pv.Header n) false (header_fits kind n)))
       (if_lays kind (bytes_eq name (codes "T")) _ _ _ _ (named_lays kind inner suspension_names p host_layer (λ n. false) (hosts_lay kind (λ n. false) suspension_names (suspensions_fit kind)))
       (named_lays kind name table_names p (λ way. item_layer known expand p way inner) (λ n. among n item_words) (
-        item_lays known expand p table.Item inner true (item_fits kind), (item_lays known expand p table.Seconds inner true (seconds_fits kind),
-        (item_lays known expand p table.Increment inner false (increment_fits kind), (item_lays known expand p table.Decrement inner false (decrement_fits kind), tt))))))))
+        item_lays known expand p table.Item inner true (item_fits kind),
+        (
+          item_lays known expand p table.Seconds inner true (seconds_fits kind),
+          (item_lays known expand p table.Increment inner false (increment_fits kind), (item_lays known expand p table.Decrement inner false (decrement_fits kind), tt)),
+        ),
+      )))))
 
   untransformed_lays : (known : Known) (expand : List ℕ → Checked (List Part)) (p : Place) (v : Variable) (o : Option (List ℕ)) → Lays kind (untransformed known expand p v o) (word_written kind v.name o)
   untransformed_lays known expand p v None = bare_lays p v.name

@@ -8,7 +8,7 @@ use Rattle.cfg_tree.specs.declared.raw.RawVariable.{RawVariable}
 use Rattle.cfg_tree.specs.declared.raw.RawScript.{RawScript}
 use Rattle.cfg_tree.specs.declared.raw.RouteKind.{RouteKind}
 use Rattle.cfg_tree.specs.declared.raw.RouteKind.TheVariants.{Route, Begins}
-use Rattle.cfg_laws.specs.Causes.{Leaf, Assigns, Stands}
+use Rattle.cfg_laws.specs.Causes.{Assigns, Stands}
 use Rattle.cfg_laws.specs.Known.{among, variable_is_known}
 
 -- a request goes on from there: not a reply's block, and no event's
