@@ -15,3 +15,4 @@ mod Judged
 mod Unknowns
 mod Values
 mod Written
+mod Paths

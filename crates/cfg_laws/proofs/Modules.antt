@@ -1,5 +1,5 @@
 -- A script that loads another module.
-use Rattle.std.proofs.Common.{◌≡◌, Bool, true, false, if◌then◌else◌, List, [], ◌∷◌, sym, ap, subst, inl, inr, arith}
+use Rattle.std.proofs.Common.{◌∙◌, refl, ◌≡◌, Bool, true, false, if◌then◌else◌, List, [], ◌∷◌, sym, ap, subst, inl, inr, arith}
 use Rattle.std.proofs.lemmas.Bool.{false≢true}
 use Rattle.pv_values.specs.declared.refusal.Place.{Place}
 use Rattle.pv_values.specs.declared.block.BlockKind.TheVariants.{Request}
@@ -13,6 +13,7 @@ use Rattle.cfg_tree.specs.Refusals.{Refusal, refusal}
 use Rattle.cfg_tree.specs.declared.refusal_kind.RefusalKind.TheVariants.{UnknownRoute, RouteTwice, UnknownFunction, WrongBlock, WrongArguments, UnknownVariable, NotWritable, BadParameter, BadPattern, TooLarge, NoRequestRoute, UnknownModule}
 use Rattle.cfg_laws.specs.Causes.{Exactly, IsListed, LoadsAnother}
 use Rattle.cfg_laws.proofs.Telling.{In, in_front, in_back, in_from_contains, contains_from_in}
+use Rattle.cfg_laws.proofs.Paths.{from_module, other_module}
 use Rattle.cfg_laws.proofs.Apart.{apart, IsOfNoBody, no_body}
 use Rattle.cfg_laws.proofs.Whole.{behind_one, blocks_none, request_none, all_parts, all_from, Of_all, of_settings, of_blocks, of_bodies, of_request}
 
@@ -45,7 +46,7 @@ module _ (at : Place) where
       behind_one here (apart 15 at BadParameter (λ n. omega (arith, n))) (apart 15 at TooLarge (λ n. omega (arith, n))) (LoadsAnother raw at) raw.items unset (λ w there is e. record {
         word = w;
         is_loaded = contains_from_in (item.Module w) raw.items there;
-        another = is;
+        another = λ m. false≢true (sym is ∙ from_module w.text m);
         place = sym (ap (λ (x : Refusal). x.at) e);
       }) h
 
@@ -62,5 +63,5 @@ module _ (at : Place) where
   pub other_modules : (raw : RawScript) → Exactly (IsListed raw UnknownModule at) (LoadsAnother raw at)
   other_modules raw = (
     λ h. another_from raw (among_settings raw (all_parts raw here h)),
-    λ l. all_from raw here (of_settings (loaded_in l.word l.another l.place raw.items unset (in_from_contains (item.Module l.word) raw.items l.is_loaded))),
+    λ l. all_from raw here (of_settings (loaded_in l.word (other_module l.word.text (is_module l.word.text) refl l.another) l.place raw.items unset (in_from_contains (item.Module l.word) raw.items l.is_loaded))),
   )

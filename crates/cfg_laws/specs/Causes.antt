@@ -1,9 +1,10 @@
 -- Why a tree is refused, kind by kind, each in words of its own.
-use Rattle.std.specs.Prelude.{◌≡◌, ℕ, false, List, [], ◌∷◌, ◌++◌, map, Contains, Option, Some, None, codes}
+use Rattle.std.specs.Prelude.{◌≡◌, ◌⊎◌, ℕ, false, List, [], ◌∷◌, ◌++◌, map, Contains, Option, Some, None, codes}
 use Rattle.std.specs.List.{flat_map}
 use Rattle.pv_values.specs.Matching.{is_pattern}
 use Rattle.pv_values.specs.declared.block.BlockKind.TheVariants.{Request, Branch, Failure, Reply}
 use Rattle.pv_values.specs.declared.refusal.Place.{Place}
+use Rattle.sip_words.specs.ByteNames.{SLASH}
 use Rattle.cfg_tree.specs.declared.raw.Word.{Word}
 use Rattle.cfg_tree.specs.declared.raw.RawVariable.{RawVariable}
 use Rattle.cfg_tree.specs.declared.raw.RawArg.{RawArg}
@@ -24,7 +25,7 @@ use Rattle.cfg_tree.specs.declared.raw.RawScript.{RawScript}
 use Rattle.cfg_tree.specs.declared.refusal_kind.RefusalKind.{RefusalKind}
 use Rattle.cfg_tree.specs.Names.{table_and_key}
 use Rattle.cfg_tree.specs.Refusals.{refusal}
-use Rattle.cfg_tree.specs.Settings.{is_module}
+use Rattle.cfg_tree.specs.Settings.{module_names}
 use Rattle.cfg_tree.specs.Checks.{blocks_of, name_text, name_place, refusals_of}
 
 -- each holds where the other does
@@ -172,9 +173,23 @@ pub record LacksRequest (raw : RawScript) (at : Place) : Type 0 where
 
 -- ---- 15: another module
 
--- a module is loaded whose name, without its path and `.so`, is none of those that are known
+-- nothing, or a folder with the slash behind it
+abbrev pub EndsFolder : List ℕ → Type 0
+EndsFolder path = (path ≡ []) ⊎ ((folder : List ℕ) × (path ≡ folder ++ SLASH ∷ []))
+
+-- the name of a module, with or without a path and `.so`
+pub record IsModule (text : List ℕ) : Type 0 where
+  pub path : List ℕ
+  pub name : List ℕ
+  pub ending : List ℕ
+  pub whole : text ≡ path ++ name ++ ending
+  pub path_is : EndsFolder path
+  pub name_is : Contains module_names name
+  pub ending_is : (ending ≡ []) ⊎ (ending ≡ codes ".so")
+
+-- a module is loaded that is none of those that are known
 pub record LoadsAnother (raw : RawScript) (at : Place) : Type 0 where
   pub word : Word
   pub is_loaded : Contains raw.items (item.Module word)
-  pub another : is_module word.text ≡ false
+  pub another : IsModule word.text → ⊥
   pub place : at ≡ word.at
