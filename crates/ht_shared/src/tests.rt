@@ -1,3 +1,4 @@
+//! Tables that two threads count in, and what of them may cross threads.
 ghost use Rattle.std.specs.Prelude.{◌≡◌, []};
 ghost use Rattle.turn_table.specs.Passes.{HoldsNone, GoesOn};
 ghost use Rattle.ht_shared.specs.Shared.{IsTablesPass, patterns_of, count_of};
@@ -131,8 +132,9 @@ fn sends<T: Send>(x: T) -> T {
     x
 }
 
-// Tables may be shared, and passes may cross threads.
-fn crosses(tables: &Tables, pass: Pass<TableCell>) -> Pass<TableCell> {
+// Tables and patterns may be shared, and passes may cross threads.
+fn crosses(tables: &Tables, patterns: &Patterns, pass: Pass<TableCell>) -> Pass<TableCell> {
     shares(tables);
+    shares(patterns);
     sends(pass)
 }

@@ -239,9 +239,9 @@ fn has_fault(
 const FULL: &[u8] =
     b"OPTIONS sip:b@h SIP/2.0\r\nVia: SIP/2.0/UDP h;branch=z9hG4bK1\r\nMax-Forwards: 70\r\nFrom: <sip:u@h>\r\nTo: <sip:b@h>\r\nCall-ID: 6\r\nCSeq: 1 OPTIONS\r\nX:\r\nX:\r\nX:\r\nX:\r\nX:\r\nX:\r\nX:\r\nX:\r\nX:\r\nX:\r\nX:\r\nX:\r\nX:\r\nX:\r\nX:\r\nX:\r\nX:\r\nX:\r\nX:\r\nX:\r\nX:\r\nX:\r\nX:\r\nX:\r\nX:\r\nX:\r\nX:\r\nX:\r\nX:\r\nX:\r\nX:\r\nX:\r\nX:\r\nX:\r\nX:\r\nX:\r\nX:\r\nX:\r\nX:\r\nX:\r\nX:\r\nX:\r\nX:\r\nX:\r\nX:\r\nX:\r\nX:\r\nX:\r\nX:\r\nX:\r\nX:\r\nX:\r\nX:\r\nX:\r\nX:\r\nX:\r\nX:\r\nX:\r\nX:\r\nX:\r\nX:\r\nX:\r\nX:\r\nX:\r\nX:\r\nX:\r\nX:\r\nX:\r\nX:\r\nX:\r\nX:\r\nX:\r\nX:\r\nX:\r\nX:\r\nX:\r\nX:\r\nX:\r\nX:\r\nX:\r\nX:\r\nX:\r\nX:\r\nX:\r\nX:\r\nX:\r\nX:\r\nX:\r\nX:\r\nX:\r\nX:\r\nX:\r\nX:\r\nX:\r\nX:\r\nX:\r\nX:\r\nX:\r\nX:\r\nX:\r\nX:\r\nX:\r\nX:\r\nX:\r\nX:\r\nX:\r\nX:\r\nX:\r\nX:\r\nX:\r\nX:\r\nX:\r\nX:\r\nX:\r\nX:\r\nX:\r\nX:\r\nX:\r\nX:\r\nX:\r\nX:\r\nX:\r\n\r\n";
 
-/// These calls write what was asked for; the text is no message.
+/// What `forwarded` wrote as it was asked; the text is no message.
 #[test]
-fn texts_that_are_no_messages(rt: HostRuntime) {
+fn forwarded_texts_that_are_no_messages(rt: HostRuntime) {
     let Ok(m) = Message::read(FULL) else {
         assert!(rt; false);
         return;
@@ -278,6 +278,16 @@ fn texts_that_are_no_messages(rt: HostRuntime) {
         result,
         MsgFault::BadStartLine,
     );
+}
+
+/// What `reply` and `relayed_reply` wrote as they were asked; the text is no message.
+#[test]
+fn replies_that_are_no_messages(rt: HostRuntime) {
+    let (Ok(m), Ok(lm)) = (Message::read(FULL), Message::read(LAST)) else {
+        assert!(rt; false);
+        return;
+    };
+    let mut room = [0; 1024];
     let result = reply(FULL, &m, CALLER, 200, b"OK\r\nno field", &mut room);
     has_fault(
         &rt,
@@ -286,28 +296,6 @@ fn texts_that_are_no_messages(rt: HostRuntime) {
         result,
         MsgFault::BadHeader,
     );
-    let mut full = [0; 1024];
-    full[..FULL.len()].copy_from_slice(FULL);
-    let result = append_field(
-        &mut full,
-        FULL.len(),
-        CHALLENGE,
-        Span {
-            from: 0,
-            to: CHALLENGE.len(),
-        },
-    );
-    has_fault(
-        &rt,
-        "129 fields, a challenge among them",
-        &full,
-        result,
-        MsgFault::TooManyHeaders,
-    );
-    let Ok(lm) = Message::read(LAST) else {
-        assert!(rt; false);
-        return;
-    };
     let result = relayed_reply(LAST, &lm, &[], &mut room);
     has_fault(
         &rt,
@@ -316,15 +304,37 @@ fn texts_that_are_no_messages(rt: HostRuntime) {
         result,
         MsgFault::Missing,
     );
-    let written = reply(FULL, &m, CALLER, 200, b"OK", &mut room);
-    let Ok(len) = written else {
+}
+
+/// What `append_field` wrote as it was asked; the text is no message.
+#[test]
+fn texts_with_a_field_more_that_are_no_messages(rt: HostRuntime) {
+    let Ok(m) = Message::read(FULL) else {
+        assert!(rt; false);
+        return;
+    };
+    let mut full = [0; 1024];
+    full[..FULL.len()].copy_from_slice(FULL);
+    let whole = Span {
+        from: 0,
+        to: CHALLENGE.len(),
+    };
+    let result = append_field(&mut full, FULL.len(), CHALLENGE, whole);
+    has_fault(
+        &rt,
+        "129 fields, a challenge among them",
+        &full,
+        result,
+        MsgFault::TooManyHeaders,
+    );
+    let mut room = [0; 1024];
+    let Ok(len) = reply(FULL, &m, CALLER, 200, b"OK", &mut room) else {
         assert!(rt; false);
         return;
     };
     assert!(rt; len <= room.len());
-    let field = b"Call-ID: 7\r\n";
     let whole = Span { from: 0, to: 12 };
-    let result = append_field(&mut room, len, field, whole);
+    let result = append_field(&mut room, len, b"Call-ID: 7\r\n", whole);
     has_fault(
         &rt,
         "a field given twice",

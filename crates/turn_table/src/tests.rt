@@ -1,3 +1,5 @@
+//! Cells that hold a sum: one that is taken while it is free, and several that threads add to.
+
 ghost use Rattle.std.specs.Prelude.{◌≡◌, ℕ, ◌%◌, ◌^◌, ◌<◌, [], map, sum, length, slice_index_or, IfOk, vec_len};
 ghost use Rattle.turn_table.specs.declared.tests.Worker.{Worker};
 ghost use mathlib.Core.Option.{some};

@@ -99,3 +99,23 @@ fn expired_items_are_taken_out_in_time(rt: HostRuntime) -> Result<(), Fail> {
     }
     Ok(())
 }
+
+#[test]
+fn items_that_are_over_are_let_go(rt: HostRuntime) -> Result<(), Fail> {
+    let alloc = rt.alloc();
+    let mut held = Held::new(alloc, HashState::Fixed);
+    for number in 0..8 {
+        let item = Item {
+            value: Val::Null,
+            due: Some(10),
+        };
+        held.put(name(alloc, number)?, item)?;
+    }
+    held.expire(9);
+    assert!(rt; held.len() == 8);
+    for _ in 0..8 {
+        held.expire(10);
+    }
+    assert!(rt; held.len() == 0);
+    Ok(())
+}
