@@ -139,7 +139,7 @@ fn give_back(state: &mut RunData, blocks: u8) -> Result<Going, NoMemory>
             let left = blocks - 1;
             Ok(Going::Asks(Ask::GiveBack(block), Waiting::GivenBack { left }))
         }
-        _ => Err(NoMemory),
+        Some(None) | None => Err(NoMemory),
     }
 }
 
