@@ -25,7 +25,7 @@ module _ (loaded : FlatScript) (a : Around) (before : Facts) where
   asks_next (Asks q next) h h' f asked b w e n = (
     ap (λ x. as_asked x []) e ∙ w.0,
     record {
-      waits = subst (λ x. HostWaits loaded a x next) (sym n) (record { inner = w.1.inner; waits = w.1.waits; same = w.1.same });
+      waits = subst (λ x. HostWaits loaded a x next) (sym n) (record { inner = w.1.inner; waits = w.1.waits; room = w.1.room; same = w.1.same });
       began = b;
     },
   )

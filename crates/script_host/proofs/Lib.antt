@@ -1,4 +1,7 @@
 mod Runs
+mod Blocks
+mod Wanted
+mod Misfits
 mod Written
 mod Read
 mod Called

@@ -2,48 +2,77 @@
 ghost use Rattle.std.specs.Prelude.{◌≡◌, IfOk, OnErr, IsTrue};
 ghost use Rattle.pv_values.specs.Kinds.{name_of};
 ghost use Rattle.host_meaning.specs.Run.{argument, received};
-ghost use Rattle.host_meaning.specs.Rows.{has_started, call_row, call_over, call_without};
+ghost use Rattle.host_meaning.specs.Rows.{has_started, call_row, called, call_over, call_without};
 ghost use Rattle.host_meaning.specs.Transactions.{t_check_trans};
 ghost use Rattle.host_meaning.specs.TableRows.{xlog, asks_table, counted_by_reply};
 ghost use Rattle.sip_msg.specs.Table.{Reads};
-ghost use Rattle.script_host.specs.Lending.{around_of, IsRead};
-ghost use Rattle.script_host.specs.Rows.{IsRowOf};
+ghost use Rattle.script_host.specs.Lending.{around_of, received_of, IsRead, state_of};
+ghost use Rattle.script_host.specs.Rows.{IsRowOf, IsGoing, AsksBelow, most_asks};
 
 use crate::ask::Ask;
 use crate::lent::{Lent, MessageView};
-use crate::row::{Row, Wait};
+use crate::relaying::relay;
+use crate::row::{Going, Row, Wait};
 use ht_core::TabOp;
 use message_functions::{
     TextRoom, append_hf, has_totag, is_method, is_present_hf, loose_route,
     mf_process_maxfwd_header, record_route, remove_hf, sl_send_reply,
 };
-use pv_table::Facts;
+use pv_table::{Facts, RunData};
 use pv_values::{Func, FuncName, HostAnswer, Text, Val, as_text};
 use sip_msg::Message;
 use std::alloc::{AllocError as NoMemory, Global};
 use transaction_functions::{has_no_transaction, t_newtran, t_reply, t_set_fr};
 
 /// The row of a function that is called. One that hasn't started, and one in a run that a block of another kind began,
-/// returns -9. Out of memory the facts stay as they were.
+/// returns -9. Out of memory the data stay as they were.
 pub(crate) fn call(
     alloc: Global,
     lent: &Lent<'_>,
     room: &mut TextRoom,
-    facts: &mut Facts,
+    state: &mut RunData,
     function: &Func,
     values: &[Val],
-) -> Result<Row, NoMemory>
+) -> Result<Going, NoMemory>
     requires reads { IsRead lent.now }
-    ensures row { IfOk result (λ r. IsRowOf (call_row (around_of lent.now) function.now values.now) facts.old r facts.new) }
-    ensures err { OnErr result (facts.new ≡ facts.old) }
+    ensures row { IfOk result (λ g. IsGoing (around_of lent.now) (call_row (around_of lent.now) function.now values.now (state_of state.old)) g state.new) }
+    ensures below { IfOk result (λ g. AsksBelow most_asks g) }
+    ensures err { OnErr result (state_of state.new ≡ state_of state.old) }
 {
     let name = function.name();
-    if !(has_started(name) && name.stands_in(facts.kind)) {
-        return Ok(Row::code(-9));
+    if has_started(name) && name.stands_in(state.facts.kind) {
+        called(alloc, lent, room, state, function, values)
+    } else {
+        Ok(Going::code(-9))
     }
-    match lent.message {
-        Some(message) => call_over(alloc, lent, message, room, facts, function, values),
-        None => call_without(alloc, lent, function, values),
+}
+
+/// The row of a function that has started.
+fn called(
+    alloc: Global,
+    lent: &Lent<'_>,
+    room: &mut TextRoom,
+    state: &mut RunData,
+    function: &Func,
+    values: &[Val],
+) -> Result<Going, NoMemory>
+    requires reads { IsRead lent.now }
+    requires started { IsTrue (has_started (name_of function.now)) }
+    ensures row { IfOk result (λ g. IsGoing (around_of lent.now) (called (around_of lent.now) (received_of lent.now.message) function.now values.now (state_of state.old)) g state.new) }
+    ensures below { IfOk result (λ g. AsksBelow most_asks g) }
+    ensures err { OnErr result (state_of state.new ≡ state_of state.old) }
+{
+    let Some(message) = lent.message else {
+        let row = call_without(alloc, lent, function, values)?;
+        return Ok(Going::once(row));
+    };
+    match function {
+        Func::TRelay => relay(alloc, lent, message, room, state),
+        _ => {
+            let facts = &mut state.facts;
+            let row = call_over(alloc, lent, message, room, facts, function, values)?;
+            Ok(Going::once(row))
+        }
     }
 }
 

@@ -13,6 +13,7 @@ mod answers;
 mod ask;
 mod calls;
 mod lent;
+mod relaying;
 mod restorable;
 mod row;
 mod run;

@@ -2,12 +2,12 @@
 ghost use Rattle.std.specs.Prelude.{◌≡◌, ◌<◌, IfOk};
 ghost use Rattle.cfg_tree.specs.declared.script.Script.{Script};
 ghost use Rattle.cfg_code.specs.Follows.{Stands};
-ghost use Rattle.script_vm.specs.Measure.{work_left};
 ghost use Rattle.host_meaning.specs.declared.ask.Heard.{Heard};
 ghost use Rattle.host_meaning.specs.Run.{Around, kept};
 ghost use Rattle.host_meaning.specs.Host.{HostCourse, run_of};
 ghost use Rattle.script_host.specs.Asking.{as_heard};
 ghost use Rattle.script_host.specs.Lending.{around_of, IsRead, state_of};
+ghost use Rattle.script_host.specs.Running.{asks_left};
 ghost use Rattle.script_host.specs.Restoring.{RestorableWaits, IsHostNext, OnNext, as_before, run_in};
 
 use crate::ask::{Answer, Ask};
@@ -81,7 +81,7 @@ impl RestorableRun {
             → RestorableWaits lent.now.loaded.now (around_of lent.now) before self next
             → IsHostNext lent.now.loaded.now (around_of lent.now) before (next (as_heard answer)) result }
         // A run asks finitely often.
-        ensures less { OnNext result (λ run. work_left lent.now.loaded.now (run_in run).run < work_left lent.now.loaded.now (run_in self).run) }
+        ensures less { OnNext result (λ run. asks_left lent.now.loaded.now (run_in run) < asks_left lent.now.loaded.now (run_in self)) }
         ensures same { shop.new ≡ shop.old }
     {
         let RestorableRun { mut run, before } = self;

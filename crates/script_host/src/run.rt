@@ -1,14 +1,14 @@
 //! A run of a block over its data.
-ghost use Rattle.std.specs.Prelude.{◌≡◌, ◌<◌, IfOk, OnErr, replicate, pos};
+ghost use Rattle.std.specs.Prelude.{◌≡◌, ◌<◌, ◌*◌, IfOk, OnErr, replicate, pos};
 ghost use Rattle.pv_values.specs.declared.value.Val.TheVariants.{Int as IntValue};
 ghost use Rattle.cfg_tree.specs.declared.script.Script.{Script};
 ghost use Rattle.cfg_tree.specs.Meaning.{dialogue};
 ghost use Rattle.cfg_code.specs.Follows.{Stands, Waits};
 
-use crate::answers::hear;
 use crate::ask::{Answer, Ask};
 use crate::lent::Lent;
-use crate::row::{Row, Wait, row_of};
+use crate::relaying::resume;
+use crate::row::{Going, Wait, Waiting, row_of};
 use crate::workshop::Workshop;
 use cfg_code::Loaded;
 use host_meaning::laws::a_row_that_asks_nothing_keeps;
@@ -37,7 +37,7 @@ pub struct HostRun {
     pub(crate) run: Run,
     pub(crate) state: RunData,
     /// What it waits for.
-    pub(crate) wait: Wait,
+    pub(crate) wait: Waiting,
     /// What it asked last.
     pub(crate) ask: Ask,
 }
@@ -63,7 +63,8 @@ impl HostRun {
     ghost use Rattle.host_meaning.specs.Host.{HostCourse, run_of};
     ghost use Rattle.script_host.specs.Asking.{as_heard};
     ghost use Rattle.script_host.specs.Lending.{around_of, IsRead, state_of};
-    ghost use Rattle.script_host.specs.Running.{HostWaits, IsHostWent, OnAsks, HasEnded, ask_of, state_in, how_of, with_ask};
+    ghost use Rattle.script_host.specs.Rows.{most_asks};
+    ghost use Rattle.script_host.specs.Running.{HostWaits, IsAt, IsHostWent, OnAsks, OnEnded, HasEnded, asks_left, ask_of, state_in, how_of, with_ask};
 
     /// A run of the block of this number over these data. The first answer that it takes may be any. Where it finds no memory
     /// the data come back.
@@ -87,7 +88,7 @@ impl HostRun {
         Ok(HostRun {
             run,
             state,
-            wait: Wait::Start,
+            wait: Waiting::Row(Wait::Start),
             ask: Ask::Free,
         })
     }
@@ -104,15 +105,41 @@ impl HostRun {
         requires reads { IsRead lent.now }
         ensures next { shop.old ≡ lent.now.loaded.now.patterns → (next : Heard → HostCourse) → HostWaits lent.now.loaded.now (around_of lent.now) self.old next
             → IsHostWent lent.now.loaded.now (around_of lent.now) (next (as_heard answer)) self.new result }
+        // Where it has ended it may as well have run out of memory: whoever decides behind it may take memory of its own.
+        ensures short { shop.old ≡ lent.now.loaded.now.patterns → (next : Heard → HostCourse) → HostWaits lent.now.loaded.now (around_of lent.now) self.old next
+            → OnEnded result (IsHostWent lent.now.loaded.now (around_of lent.now) (next (as_heard answer)) self.new HostWent.NoMemory) }
         // A run asks finitely often.
-        ensures less { OnAsks result (work_left lent.now.loaded.now self.new.run < work_left lent.now.loaded.now self.old.run) }
+        ensures less { OnAsks result (asks_left lent.now.loaded.now self.new < asks_left lent.now.loaded.now self.old) }
         ensures again { (how : How) → HasEnded self.old how → (result ≡ HostWent.Ended) × (self.new ≡ self.old) }
         ensures same { shop.new ≡ shop.old }
     {
-        let Ok(heard) = hear(self.wait, answer) else {
-            return HostWent::NoMemory;
-        };
-        let mut told = heard;
+        match resume(alloc, lent, &mut self.state, self.wait, answer) {
+            Ok(Going::Tells(told)) => self.run_on(alloc, lent, shop, told),
+            Ok(Going::Asks(ask, wait)) => self.asks(ask, wait),
+            Err(_) => HostWent::NoMemory,
+        }
+    }
+
+    /// Goes on with what it is told, to the next ask outside or to the end.
+    fn run_on(
+        &mut self,
+        alloc: Global,
+        lent: &Lent<'_>,
+        shop: &mut Workshop<'_>,
+        first: HostAnswer,
+    ) -> HostWent
+        requires reads { IsRead lent.now }
+        ensures next { shop.old ≡ lent.now.loaded.now.patterns → (whole : HostCourse)
+            → IsAt lent.now.loaded.now (around_of lent.now) self.old.run first (state_of self.old.state) whole
+            → IsHostWent lent.now.loaded.now (around_of lent.now) whole self.new result }
+        ensures short { shop.old ≡ lent.now.loaded.now.patterns → (whole : HostCourse)
+            → IsAt lent.now.loaded.now (around_of lent.now) self.old.run first (state_of self.old.state) whole
+            → OnEnded result (IsHostWent lent.now.loaded.now (around_of lent.now) whole self.new HostWent.NoMemory) }
+        ensures less { OnAsks result (asks_left lent.now.loaded.now self.new < most_asks * work_left lent.now.loaded.now self.old.run) }
+        ensures again { (how : How) → HasEnded self.old how → (result ≡ HostWent.Ended) × (self.new ≡ self.old) }
+        ensures same { shop.new ≡ shop.old }
+    {
+        let mut told = first;
         a_row_that_asks_nothing_keeps();
         'asks: loop {
             match self
@@ -122,8 +149,8 @@ impl HostRun {
                 Went::Asks => {
                     let asked = self.run.asked(lent.loaded);
                     match row_of(alloc, lent, &mut shop.room, &mut self.state, asked) {
-                        Ok(Row::Tells(answer)) => told = answer,
-                        Ok(Row::Asks(ask, wait)) => return self.asks(ask, wait),
+                        Ok(Going::Tells(answer)) => told = answer,
+                        Ok(Going::Asks(ask, wait)) => return self.asks(ask, wait),
                         Err(_) => return HostWent::NoMemory,
                     }
                 }
@@ -134,7 +161,7 @@ impl HostRun {
     }
 
     /// Asks this outside, and waits so.
-    fn asks(&mut self, ask: Ask, wait: Wait) -> HostWent
+    fn asks(&mut self, ask: Ask, wait: Waiting) -> HostWent
         ensures asks { result ≡ HostWent.Asks }
         ensures new { self.new ≡ record self.old { ask = ask; wait = wait } }
     {
@@ -146,9 +173,9 @@ impl HostRun {
     /// Has ended: whatever it is answered now, it ends again.
     fn ends(&mut self) -> HostWent
         ensures ended { result ≡ HostWent.Ended }
-        ensures new { self.new ≡ record self.old { wait = Wait.Start } }
+        ensures new { self.new ≡ record self.old { wait = Waiting.Row Wait.Start } }
     {
-        self.wait = Wait::Start;
+        self.wait = Waiting::Row(Wait::Start);
         HostWent::Ended
     }
 

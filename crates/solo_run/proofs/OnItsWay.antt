@@ -60,7 +60,7 @@ module _ (l : Lent) (at : ℕ) (script : Script) (s : RunState) (old : Objects) 
       let items = shown_ask at (as_asked (ask_of run') []) in
       record {
         next = n.next;
-        waits = record { inner = n.waits.inner; waits = n.waits.waits; same = n.waits.same };
+        waits = record { inner = n.waits.inner; waits = n.waits.waits; room = n.waits.room; same = n.waits.same };
         stateless = n.stateless;
         done = on.done ++ items;
         goes = on.goes ∙ ap (behind on.done) n.goes ∙ behind_twice on.done items _ ∙ rw (done.heard, done.shown.tables_are) refl;

@@ -2,7 +2,7 @@
 use Rattle.std.proofs.Common.{◌≡◌}
 use Rattle.cfg_tree.specs.declared.script.Script.{Script}
 use Rattle.cfg_code.specs.Follows.{Stands}
-use Rattle.script_vm.specs.Measure.{work_left}
+use Rattle.script_host.specs.Running.{asks_left}
 use Rattle.script_host.specs.Asking.{as_heard}
 use Rattle.script_host.specs.Lending.{state_of}
 use Rattle.solo_run.proofs.OnItsWay.{IsOn}
@@ -14,4 +14,4 @@ invariant-loop-objects l =
     × (l.shop ≡ l.fn.shop)
 
 abbrev pub decreases-loop-objects : goal.decreases-loop-objects
-decreases-loop-objects l = work_left l.lent.loaded.now l.run.run
+decreases-loop-objects l = asks_left l.lent.loaded.now l.run
