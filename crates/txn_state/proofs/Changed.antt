@@ -57,9 +57,6 @@ none_at request [] n f e = refl
 none_at request (x ∷ xs) zero f e = absurd (cc)
 none_at request (x ∷ xs) (suc n) f e = ap (λ (ys : List TxnBranch). branch_shown request x ∷ ys) (none_at request xs n f e)
 
-pub same_requests : (bs : List Branch) (n : ℕ) (d : Branch) (s : BranchState) → n < length bs → requests_of (slice_set bs n (record (get_or bs n d) { state = s })) ≡ requests_of bs
-same_requests bs n d s lt = ap (λ (ts : List (TextBlock × TextBlock)). map (λ t. text_in t.0) ts) (same_texts bs n d s lt)
-
 pub same_pools : (bs : List Branch) (n : ℕ) (d : Branch) (s : BranchState) (pool : LedgerName) → n < length bs → AreOfPool pool bs → AreOfPool pool (slice_set bs n (record (get_or bs n d) { state = s }))
 same_pools bs n d s pool lt h =
     subst (λ (ts : List (TextBlock × TextBlock)). AllByRecursion (λ t. (pool_of t.0 ≡ pool) × (pool_of t.1 ≡ pool)) ts) (sym (same_texts bs n d s lt)) h
@@ -69,6 +66,9 @@ pub put_requests : (bs : List Branch) (n : ℕ) (b d : Branch) → n < length bs
 put_requests [] n b d lt e = absurd (omega arith)
 put_requests (x ∷ xs) zero b d lt e = ap (λ (t : TextBlock). text_in t ∷ requests_of xs) e
 put_requests (x ∷ xs) (suc n) b d lt e = let less : n < length xs = omega arith in ap (λ (ts : List (List ℕ)). text_in x.request ∷ ts) (put_requests xs n b d less e)
+
+pub same_requests : (bs : List Branch) (n : ℕ) (d : Branch) (s : BranchState) → n < length bs → requests_of (slice_set bs n (record (get_or bs n d) { state = s })) ≡ requests_of bs
+same_requests bs n d s lt = put_requests bs n (record (get_or bs n d) { state = s }) d lt refl
 
 pub put_pools : (bs : List Branch) (n : ℕ) (b d : Branch) (pool : LedgerName) → n < length bs → b.request ≡ (get_or bs n d).request →
     pool_of b.response ≡ pool_of (get_or bs n d).response → AreOfPool pool bs → AreOfPool pool (slice_set bs n b)

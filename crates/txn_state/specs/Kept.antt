@@ -72,7 +72,7 @@ texts_of branches = map (λ b. (b.request, b.response)) branches
 
 -- the requests of the branches
 abbrev pub requests_of : List Branch → List (List ℕ)
-requests_of branches = map (λ t. text_in t.0) (texts_of branches)
+requests_of branches = map (λ b. text_in b.request) branches
 
 -- the blocks of the branches are of this pool
 abbrev pub AreOfPool : LedgerName → List Branch → Type 0

@@ -118,10 +118,11 @@ is_branch pool t r w d n b x h e f = let some : slice_get d.state.branches n ≡
 
 -- ---- its texts
 
+request_there : (bs : List Branch) (n : ℕ) (x : Branch) → slice_get bs n ≡ Some x → slice_get (requests_of bs) n ≡ Some (text_in x.request)
+request_there bs n x e = slice_get-map (λ (b : Branch). text_in b.request) bs n ∙ ap (option_map (λ (b : Branch). text_in b.request)) e
+
 pub text_at : (bs : List Branch) (n : ℕ) (x : Branch) → slice_get bs n ≡ Some x → request_at (requests_of bs) n ≡ text_in x.request
-text_at bs n x e =
-    ap (λ o. unwrap_or o []) (slice_get-map (λ (t : TextBlock × TextBlock). text_in t.0) (texts_of bs) n
-    ∙ ap (option_map (λ (t : TextBlock × TextBlock). text_in t.0)) (slice_get-map (λ (b : Branch). (b.request, b.response)) bs n ∙ ap (option_map (λ (b : Branch). (b.request, b.response))) e))
+text_at bs n x e = ap (λ (o : Option (List ℕ)). unwrap_or o []) (request_there bs n x e)
 
 all_at : (texts : List (List ℕ)) (n : ℕ) (text : List ℕ) → AreReadable texts → slice_get texts n ≡ Some text → is_some (reading text) ≡ true
 all_at [] n text h e = absurd (cc)
@@ -129,7 +130,4 @@ all_at (x ∷ xs) zero text h e = let same : x ≡ text = cc in subst (λ y. is_
 all_at (x ∷ xs) (suc n) text h e = all_at xs n text h.1 e
 
 pub reads_at : (bs : List Branch) (n : ℕ) (x : Branch) → AreReadable (requests_of bs) → slice_get bs n ≡ Some x → is_some (reading (text_in x.request)) ≡ true
-reads_at bs n x h e =
-    all_at (requests_of bs) n (text_in x.request) h
-    (slice_get-map (λ (t : TextBlock × TextBlock). text_in t.0) (texts_of bs) n
-    ∙ ap (option_map (λ (t : TextBlock × TextBlock). text_in t.0)) (slice_get-map (λ (b : Branch). (b.request, b.response)) bs n ∙ ap (option_map (λ (b : Branch). (b.request, b.response))) e))
+reads_at bs n x h e = all_at (requests_of bs) n (text_in x.request) h (request_there bs n x e)
