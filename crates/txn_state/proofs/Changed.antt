@@ -1,6 +1,6 @@
 -- A branch that is changed, as it is shown.
 use Rattle.std.proofs.Common.{◌≡◌, ◌<◌, ◌≤◌, ℕ, zero, suc, List, [], ◌∷◌, length, get_or, ap, subst, refl, sym, ◌∙◌, arith}
-use Rattle.std.specs.Prelude.{slice_set, slice_get, Some, None, map}
+use Rattle.std.specs.Prelude.{slice_set, slice_get, Some, None}
 use Rattle.std.specs.List.{AllByRecursion}
 use Rattle.buf_pool.specs.Ledgers.{LedgerName}
 use Rattle.std.proofs.lemmas.Option.{slice_get-get_or}

@@ -1,5 +1,5 @@
 //! What steps change in the branches of a transaction.
-ghost use Rattle.std.specs.Prelude.{◌≡◌, ◌≤◌, ℕ, List, Some, None, IfSome, true, length, slice_get, option_map};
+ghost use Rattle.std.specs.Prelude.{◌≡◌, ◌≤◌, ℕ, List, Some, None, IfSome, true, length, slice_get, option_copied, option_map};
 ghost use Rattle.buf_pool.specs.Ledgers.{LedgerName};
 ghost use Rattle.fork_core.specs.Responses.{History};
 ghost use Rattle.host_meaning.specs.Run.{Received};
@@ -11,6 +11,13 @@ use crate::branch::{Branch, BranchState};
 use crate::txn::Txn;
 
 impl Txn {
+    /// The branch of this number; none where there is no such branch.
+    pub fn branch(&self, n: u8) -> Option<&Branch>
+        ensures { option_copied result ≡ slice_get self.now.branches.items n }
+    {
+        self.branches.get(usize::from(n))
+    }
+
     /// What steps change in the branch of this number; none where there is no such branch.
     pub fn branch_state(&self, n: u8) -> Option<BranchState>
         ensures { result ≡ option_map (λ b. b.state) (slice_get self.now.branches.items n) }

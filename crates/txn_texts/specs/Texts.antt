@@ -1,5 +1,5 @@
 -- The texts that a step sends, by what they are made of.
-use Rattle.std.specs.Prelude.{◌≡◌, ℕ, List, [], Option, Some, None, IfSome, slice_get, unwrap_or}
+use Rattle.std.specs.Prelude.{ℕ, List, [], Option, Some, None, IfSome, slice_get, unwrap_or}
 use Rattle.outside_ports.specs.declared.port.Addr.{Addr}
 use Rattle.sip_msg.specs.Table.{Reads}
 use Rattle.sip_build.specs.Reply.{reply_text}

@@ -7,8 +7,8 @@ use crate::sources::Sources;
 use msg_edits::Edit;
 use sip_build::relayed_reply;
 use sip_msg::Message;
-use txn_state::put_front;
 use std::alloc::{AllocError as NoMemory, Global};
+use txn_state::put_front;
 
 /// The most bytes that a message may have.
 const LONGEST: usize = 8192;

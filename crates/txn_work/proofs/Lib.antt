@@ -1,3 +1,3 @@
-mod Clients
+mod Branches
 mod Responding
 mod Shown

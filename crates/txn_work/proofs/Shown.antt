@@ -1,6 +1,7 @@
 -- What data stand for, after a change.
 use Rattle.std.proofs.Common.{◌≡◌, ℕ, zero, suc, ◌+◌, ◌*◌, ◌≤◌, List, [], ◌∷◌, length, Option, Some, None, refl, sym, ap, ◌∙◌, subst, true}
-use Rattle.std.specs.Prelude.{map, slice_get, option_map, unwrap_or, is_some, vec_len, Vec}
+use Rattle.std.specs.Prelude.{slice_get, option_map, unwrap_or, is_some, vec_len}
+use Rattle.std.proofs.Common.{Vec, Global}
 use Rattle.std.proofs.lemmas.Option.{slice_get-map}
 use Rattle.std.specs.List.{AllByRecursion}
 use Rattle.buf_pool.specs.Ledgers.{LedgerName}
@@ -10,10 +11,9 @@ use Rattle.txn_dialogue.specs.Slots.{TxnBranch, TxnState, change_at, reading}
 use Rattle.txn_dialogue.specs.Sends.{Sent, Work as Decided, at_branch}
 use Rattle.txn_state.specs.declared.txn.Txn.{Txn}
 use Rattle.txn_state.specs.Texts.{pool_of, text_in}
-use Rattle.txn_state.specs.Kept.{AreOfPool, AreReadable, branch_shown, branches_shown, requests_of, text_if, texts_of}
+use Rattle.txn_state.specs.Kept.{AreOfPool, AreReadable, branch_shown, branches_shown, requests_of, text_if}
 use Rattle.txn_texts.specs.declared.sources.Readings.{Readings}
 use Rattle.txn_state.specs.declared.branch.Branch.{Branch}
-use Rattle.txn_state.specs.declared.text_block.TextBlock.{TextBlock}
 use Rattle.txn_texts.specs.declared.desk.Desk.{Desk}
 use Rattle.txn_texts.specs.declared.outbox.Outbox.{Outbox}
 use Rattle.txn_texts.specs.Desks.{last_on}
@@ -32,19 +32,29 @@ same_pool pool t t' w w' h request response branches spare = record {
   spare = subst (λ bs. AllByRecursion (λ b. b.pool ≡ pool) bs.items) (sym spare) h.spare;
 }
 
+abbrev pub with_texts : Work → Desk → Outbox → Work
+with_texts w k o = record w { desk = k; outbox = o }
+
 -- the context and the branches stay
-pub stays : (pool : LedgerName) (t t' : Txn) (r : Readings) (w w' : Work) (d d' : Decided) → Shows pool t r w d →
-    t'.context ≡ t.context → t'.branches ≡ t.branches → t'.request ≡ t.request → t'.response ≡ t.response → w'.spare ≡ w.spare →
+staying : (pool : LedgerName) (t t' : Txn) (r : Readings) (w : Work) (k : Desk) (o : Outbox) (d d' : Decided) → Shows pool t r w d →
+    t'.context ≡ t.context → t'.branches ≡ t.branches → t'.request ≡ t.request → t'.response ≡ t.response →
     d'.state.history ≡ d.state.history → d'.base ≡ d.base →
-    AllRead (parts_in t' r w') w'.outbox → work_shown t' r w' d.state.history d.base ≡ d' → Shows pool t' r w' d'
-stays pool t t' r w w' d d' h context branches request response spare history base read same = record {
+    AllRead (parts_in t' r (with_texts w k o)) o → work_shown t' r (with_texts w k o) d.state.history d.base ≡ d' → Shows pool t' r (with_texts w k o) d'
+staying pool t t' r w k o d d' h context branches request response history base read same = record {
   context = subst (λ (x : History). HasHistory t'.context x) (sym history) (subst (λ c. HasHistory c d.state.history) (sym context) h.context);
   count = ap (λ (x : History). length x.branches) history ∙ h.count ∙ ap (λ b. length b.items) (sym branches);
   requests = subst (λ b. AreReadable (requests_of b.items)) (sym branches) h.requests;
   sends = read;
-  pools = same_pool pool t t' w w' h.pools request response (subst (λ b. AreOfPool pool t.branches.items → AreOfPool pool b.items) (sym branches) (λ p. p)) spare;
-  same = ap (λ (x : History). work_shown t' r w' x d'.base) history ∙ ap (λ (x : TxnState). work_shown t' r w' d.state.history x) base ∙ same;
+  pools = same_pool pool t t' w (with_texts w k o) h.pools request response (subst (λ b. AreOfPool pool t.branches.items → AreOfPool pool b.items) (sym branches) (λ p. p)) refl;
+  same = ap (λ (x : History). work_shown t' r (with_texts w k o) x d'.base) history ∙ ap (λ (x : TxnState). work_shown t' r (with_texts w k o) d.state.history x) base ∙ same;
 }
+
+pub stays : (pool : LedgerName) (t t' : Txn) (r : Readings) (w w' : Work) (d d' : Decided) → Shows pool t r w d → w' ≡ with_texts w w'.desk w'.outbox →
+    t'.context ≡ t.context → t'.branches ≡ t.branches → t'.request ≡ t.request → t'.response ≡ t.response →
+    d'.state.history ≡ d.state.history → d'.base ≡ d.base →
+    AllRead (parts_in t' r w') w'.outbox → work_shown t' r (with_texts w w'.desk w'.outbox) d.state.history d.base ≡ d' → Shows pool t' r w' d'
+stays pool t t' r w w' d d' h work context branches request response history base read same =
+    subst (λ (x : Work). Shows pool t' r x d') (sym work) (staying pool t t' r w w'.desk w'.outbox d d' h context branches request response history base read same)
 
 -- ---- a branch is changed
 
@@ -61,7 +71,7 @@ BranchChanges pool t r w d n f sends t' w' =
     length t'.branches.items ≡ length t.branches.items → ((old : Option (List ℕ)) → last_on w'.desk old ≡ last_on w.desk old) →
     AllRead (parts_in t' r w') w'.outbox → sends_shown (parts_in t' r w') w'.outbox ≡ sends → Shows pool t' r w' (with_branches n f sends d)
 
-changed_so : (pool : LedgerName) (t : Txn) (bs : Vec Branch) (few : vec_len bs ≤ 12) (r : Readings) (w : Work) (k : Desk) (o : Outbox) (d : Decided) (n : ℕ) (f : TxnBranch → TxnBranch) (sends : List Sent) →
+changed_so : (pool : LedgerName) (t : Txn) (bs : Vec Branch Global) (few : vec_len bs ≤ 12) (r : Readings) (w : Work) (k : Desk) (o : Outbox) (d : Decided) (n : ℕ) (f : TxnBranch → TxnBranch) (sends : List Sent) →
     Shows pool t r w d → BranchChanges pool t r w d n f sends (record t { branches = bs; few = few }) (record w { desk = k; outbox = o })
 changed_so pool t bs few r w k o d n f sends h branches requests pools count last read sent =
     let w0 = work_shown t r w d.state.history d.base in

@@ -45,7 +45,7 @@ work_shown t r w h base = record {
   sends = sends_shown (parts_in t r w) w.outbox;
   continued = w.continued;
   is_continuation = w.is_continuation;
-  now = w.now;
+  now = w.time;
 }
 
 -- the ACK for the response that came to the request of a branch; where none came it is empty

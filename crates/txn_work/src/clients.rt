@@ -1,5 +1,5 @@
 //! Clients: the requests of the branches, their ACKs and their CANCELs.
-ghost use Rattle.std.specs.Prelude.{◌≡◌, ◌<◌, ◌≤◌, ◌+◌, ℕ, List, Option, Some, None, length, slice_get};
+ghost use Rattle.std.specs.Prelude.{◌≡◌, ◌<◌, ◌≤◌, ◌+◌, ℕ, List, Option, Some, None, true, length, slice_get};
 ghost use Rattle.txn_client.specs.Rows.{client_over};
 ghost use Rattle.txn_client.specs.After.{client_after};
 ghost use Rattle.txn_dialogue.specs.Slots.{TxnBranch};
@@ -42,12 +42,12 @@ impl Work {
         ensures room { room_in self.old.outbox ≤ room_in self.new.outbox + 2 }
         ensures same { txn.new ≡ record txn.old { branches = txn.new.branches; few = txn.new.few } }
     {
-        let Some(branch) = txn.branches.get(usize::from(n)) else {
+        let Some(branch) = txn.branch(n) else {
             return ClientActs::default();
         };
         let to = branch.to;
         let mut state = branch.state;
-        let acts = client_step(&mut state.client, event, self.now);
+        let acts = client_step(&mut state.client, event, self.time);
         txn.set_branch_state(n, state);
         self.send_if(acts.send, txn, readings, to, OutText::Request(n), Some(n));
         self.send_if(acts.ack, txn, readings, to, OutText::Ack(n), None);
@@ -76,7 +76,7 @@ impl Work {
         ensures room { room_in self.old.outbox ≤ room_in self.new.outbox + 1 }
         ensures same { txn.new ≡ record txn.old { branches = txn.new.branches; few = txn.new.few } }
     {
-        let Some(branch) = txn.branches.get(usize::from(n)) else {
+        let Some(branch) = txn.branch(n) else {
             return;
         };
         if !branch.is_ripe() {
@@ -84,8 +84,8 @@ impl Work {
         }
         let to = branch.to;
         let mut state = branch.state;
-        state.cancel = Some(begun(false, self.now));
-        state.quit_due = Some(after(self.now, TO_QUIT));
+        state.cancel = Some(begun(false, self.time));
+        state.quit_due = Some(after(self.time, TO_QUIT));
         txn.set_branch_state(n, state);
         self.send(txn, readings, to, OutText::Cancel(n), None);
     }
@@ -124,11 +124,11 @@ impl Work {
         ensures room { room_in self.old.outbox ≤ room_in self.new.outbox + length numbers.now }
         ensures same { txn.new ≡ record txn.old { branches = txn.new.branches; few = txn.new.few } }
     {
-        let [n, rest @ ..] = numbers else {
+        let Some(n) = numbers.first() else {
             return;
         };
         self.cancel(txn, readings, *n);
-        self.cancel_each(txn, readings, rest);
+        self.cancel_each(txn, readings, &numbers[1..]);
     }
 
     /// A response to the CANCEL of the branch of this number steps its client alone.
@@ -143,7 +143,7 @@ impl Work {
         let Some(mut client) = state.cancel else {
             return;
         };
-        client_step(&mut client, event, self.now);
+        client_step(&mut client, event, self.time);
         state.cancel = Some(client);
         txn.set_branch_state(n, state);
     }
@@ -159,7 +159,7 @@ impl Work {
         ensures room { room_in self.old.outbox ≤ room_in self.new.outbox + 1 }
         ensures same { txn.new ≡ record txn.old { branches = txn.new.branches; few = txn.new.few } }
     {
-        let Some(branch) = txn.branches.get(usize::from(n)) else {
+        let Some(branch) = txn.branch(n) else {
             return;
         };
         let to = branch.to;
@@ -167,7 +167,7 @@ impl Work {
         let Some(mut client) = state.cancel else {
             return;
         };
-        let acts = client_step(&mut client, event, self.now);
+        let acts = client_step(&mut client, event, self.time);
         state.cancel = Some(client);
         txn.set_branch_state(n, state);
         self.send_if(acts.send, txn, readings, to, OutText::Cancel(n), None);

@@ -23,7 +23,7 @@ impl Work {
         ensures same { txn.new ≡ record txn.old { progress = txn.new.progress } }
     {
         txn.progress.suspension = txn.script.label;
-        txn.progress.suspension_due = Some(after(self.now, txn.script.final_timers.other));
+        txn.progress.suspension_due = Some(after(self.time, txn.script.final_timers.other));
     }
 
     /// The suspension is over.
@@ -104,7 +104,7 @@ impl Work {
             → Shows pool txn.new r self.now (at_branch n (λ b. record b { final_due = final_due_after invite code (moment_after d.now d.state.final_timers.invite) b.final_due }) d) }
         ensures same { txn.new ≡ record txn.old { branches = txn.new.branches; few = txn.new.few } }
     {
-        let due = after(self.now, txn.script.final_timers.invite);
+        let due = after(self.time, txn.script.final_timers.invite);
         if let Some(mut state) = txn.branch_state(n) {
             state.final_due = final_due(invite, code, due, state.final_due);
             txn.set_branch_state(n, state);

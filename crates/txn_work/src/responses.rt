@@ -30,7 +30,7 @@ impl Work {
         ensures same { txn.new ≡ record txn.old { progress = record txn.old.progress { server = txn.new.progress.server } } }
     {
         let had_final = txn.has_final();
-        let acts = server_step(&mut txn.progress.server, ServerEvent::Send(code), self.now);
+        let acts = server_step(&mut txn.progress.server, ServerEvent::Send(code), self.time);
         if !acts.send {
             return;
         }
@@ -86,7 +86,7 @@ impl Work {
         ensures room { room_in self.old.outbox ≤ room_in self.new.outbox + 1 }
         ensures same { txn.new ≡ record txn.old { progress = record txn.old.progress { server = txn.new.progress.server } } }
     {
-        let acts = server_step(&mut txn.progress.server, event, self.now);
+        let acts = server_step(&mut txn.progress.server, event, self.time);
         if !acts.repeat {
             return;
         }

@@ -19,7 +19,7 @@ pub struct Work {
     /// The blocks that are none of a text yet.
     pub spare: Vec<Block>,
     /// The time of the step, in milliseconds.
-    pub now: u64,
+    pub time: u64,
     /// The request is handled for the first time.
     pub first: bool,
     /// There is a transaction.

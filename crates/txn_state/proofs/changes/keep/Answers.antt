@@ -1,4 +1,3 @@
-use Rattle.std.proofs.Common.{◌∙◌}
 use Rattle.txn_dialogue.specs.Slots.{TxnBranch}
 use Rattle.std.specs.Prelude.{option_map}
 use Rattle.txn_state.proofs.Changed.{beyond_at, changed_at, put_requests, put_pools}

@@ -1,4 +1,3 @@
-use Rattle.std.proofs.Common.{refl}
 use Rattle.txn_state.proofs.Changed.{beyond_at, put_at, same_pools, same_requests}
 use Rattle.txn_state.proofs.changes.set_state.Goals as goal
 
