@@ -1,6 +1,7 @@
 -- What the data of a transaction stand for.
 use Rattle.std.specs.Prelude.{◌≡◌, ℕ, Bool, true, false, List, length, map, Option, Some, None, is_some, unwrap_or}
 use Rattle.std.specs.List.{AllByRecursion}
+use Rattle.buf_pool.specs.Ledgers.{LedgerName}
 use Rattle.fork_core.specs.Responses.{History}
 use Rattle.fork_core.specs.Histories.{HasHistory}
 use Rattle.host_meaning.specs.Run.{Received}
@@ -9,7 +10,7 @@ use Rattle.txn_dialogue.specs.Ending.{blocks_of}
 use Rattle.txn_state.specs.declared.branch.Branch.{Branch}
 use Rattle.txn_state.specs.declared.txn.Txn.{Txn}
 use Rattle.txn_state.specs.declared.text_block.TextBlock.{TextBlock}
-use Rattle.txn_state.specs.Texts.{text_in}
+use Rattle.txn_state.specs.Texts.{pool_of, text_in}
 
 -- the text in a block, where there is one
 abbrev pub text_if : Bool → TextBlock → Option (List ℕ)
@@ -65,6 +66,18 @@ state_shown request h t = record {
   is_owed = t.progress.is_owed;
 }
 
+-- the blocks of the branches, each with its text: the request and the response
+abbrev pub texts_of : List Branch → List (TextBlock × TextBlock)
+texts_of branches = map (λ b. (b.request, b.response)) branches
+
+-- the requests of the branches
+abbrev pub requests_of : List Branch → List (List ℕ)
+requests_of branches = map (λ b. text_in b.request) branches
+
+-- the blocks of the branches are of this pool
+abbrev pub AreOfPool : LedgerName → List Branch → Type 0
+AreOfPool pool branches = AllByRecursion (λ t. (pool_of t.0 ≡ pool) × (pool_of t.1 ≡ pool)) (texts_of branches)
+
 -- between its steps a transaction has no block but those of its texts
 abbrev pub shown : Received → History → Txn → Live
 shown request h t = record {
@@ -73,15 +86,15 @@ shown request h t = record {
   blocks = blocks_of (state_shown request h t);
 }
 
--- the branch's request reads
-abbrev pub IsReadBranch : Branch → Type 0
-IsReadBranch b = is_some (reading (text_in b.request)) ≡ true
+-- each of these texts reads
+abbrev pub AreReadable : List (List ℕ) → Type 0
+AreReadable texts = AllByRecursion (λ text. is_some (reading text) ≡ true) texts
 
 -- The data stand for this transaction: its request reads so, the requests of all branches read, the context stands for its history,
 -- which has as many branches.
 pub record Shows (t : Txn) (live : Live) : Type 0 where
   pub request : reading (text_in t.request) ≡ Some live.origin.request
-  pub branches : AllByRecursion IsReadBranch t.branches.items
+  pub requests : AreReadable (requests_of t.branches.items)
   pub context : HasHistory t.context live.state.history
   pub count : length live.state.history.branches ≡ length t.branches.items
   pub same : shown live.origin.request live.state.history t ≡ live

@@ -18,7 +18,7 @@ mod timers;
 mod txn;
 
 pub use branch::{Branch, BranchState};
-pub use text_block::TextBlock;
+pub use text_block::{TextBlock, put_front};
 pub use txn::{Progress, ScriptState, Txn};
 
 #[cfg(test)]

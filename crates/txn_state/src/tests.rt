@@ -183,8 +183,8 @@ fn what_is_due_next(rt: HostRuntime) -> Result<(), Fail> {
         branch.state.client.state = ClientState::Terminated;
     }
     assert_eq!(rt; txn.is_over(), true);
-    txn.is_unsent(0, 40);
-    txn.is_unsent(1, 30);
+    txn.mark_unsent(0, 40);
+    txn.mark_unsent(1, 30);
     assert_eq!(rt;
         txn.timer_at(40),
         Some(SlotTimer::Branch(0, BranchTimer::Unsent))

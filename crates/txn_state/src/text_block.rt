@@ -14,11 +14,12 @@ pub struct TextBlock {
 
 impl TextBlock {
     ghost use Rattle.std.specs.Prelude.{◌≡◌, [], length};
-    ghost use Rattle.txn_state.specs.Texts.{text_in};
+    ghost use Rattle.txn_state.specs.Texts.{pool_of, text_in};
 
     /// This block, with no text in it.
     pub fn new(block: Block) -> TextBlock
-        ensures { text_in result ≡ [] }
+        ensures text { text_in result ≡ [] }
+        ensures pool { pool_of result ≡ block.pool }
     {
         TextBlock { block, len: 0 }
     }
@@ -33,19 +34,22 @@ impl TextBlock {
     /// Puts another text into the block.
     pub fn write(&mut self, text: &[u8])
         requires { length text.now ≤ 8192 }
-        ensures { text_in self.new ≡ text.now }
+        ensures text { text_in self.new ≡ text.now }
+        ensures pool { pool_of self.new ≡ pool_of self.old }
     {
-        put(self.block.bytes_mut(), text);
+        put_front(self.block.bytes_mut(), text);
         self.len = text.len();
     }
 
-    pub fn into_block(self) -> Block {
+    pub fn into_block(self) -> Block
+        ensures { result.pool ≡ pool_of self }
+    {
         self.block
     }
 }
 
 /// Puts the text at the beginning of the bytes.
-fn put(bytes: &mut [u8], text: &[u8])
+pub fn put_front(bytes: &mut [u8], text: &[u8])
     requires { length text.now ≤ length bytes.old }
     ensures text { take (length text.now) bytes.new ≡ text.now }
     ensures len { length bytes.new ≡ length bytes.old }

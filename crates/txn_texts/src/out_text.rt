@@ -9,13 +9,15 @@ use pv_values::Text;
 pub enum OutText {
     /// A response to the request that the proxy makes, with this status code and reason phrase.
     Made { code: u16, reason: Reason },
-    /// The response that came, or that is the best one, as it goes on.
+    /// A response to the message that came, with this status code and reason phrase, without a transaction.
+    Stateless { code: u16, reason: Reason },
+    /// The text that goes on: the response that came or that is the best one, or an ACK without a transaction.
     Passed,
     /// The response that the server repeats.
     Repeated,
     /// The request of the branch of this number.
     Request(u8),
-    /// The ACK for the response that came, to the request of this branch (RFC 3261, section 17.1.1.3).
+    /// The ACK for the response that came, for the request of this branch (RFC 3261, section 17.1.1.3).
     Ack(u8),
     /// The CANCEL of the request of this branch (RFC 3261, section 9.1).
     Cancel(u8),

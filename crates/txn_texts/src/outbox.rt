@@ -35,19 +35,30 @@ pub struct Outbox {
 impl Outbox {
     ghost use Rattle.std.specs.Prelude.{◌≡◌, ℕ, List, Option, ◌<◌, ◌+◌, ◌∷◌, [], length, IfOk, OnOk, OnErr, MatchOption};
     ghost use Rattle.txn_dialogue.specs.Sends.{and_sent, kept_of};
-    ghost use Rattle.txn_texts.specs.Texts.{AreRead, Parts, parts_of, text_of};
-    ghost use Rattle.txn_texts.specs.Desks.{text_on, last_on};
+    ghost use Rattle.txn_texts.specs.Texts.{AreRead, Parts, parts_from, text_of};
+    ghost use Rattle.txn_texts.specs.Desks.{text_on, passed_on, last_on};
     ghost use Rattle.txn_texts.specs.Outboxes.{sends_shown, room_in, AllRead};
     ghost use Rattle.txn_dialogue.specs.Sends.{Sent as Decided};
 
     /// No datagram, and no room yet.
     pub fn new(alloc: Global) -> Outbox
-        ensures { (p : Parts) → sends_shown p result ≡ [] }
+        ensures sends { (p : Parts) → sends_shown p result ≡ [] }
+        ensures read { (p : Parts) → AllRead p result }
     {
         Outbox {
             list: Vec::new(alloc),
             written: 0,
         }
+    }
+
+    /// No datagram is left; the room stays.
+    pub fn clear(&mut self)
+        ensures sends { (p : Parts) → sends_shown p self.new ≡ [] }
+        ensures read { (p : Parts) → AllRead p self.new }
+        ensures room { room_in self.old ≤ room_in self.new }
+    {
+        self.list.clear();
+        self.written = 0;
     }
 
     /// Makes room for so many datagrams more.
@@ -70,11 +81,12 @@ impl Outbox {
     )
         requires read { AreRead sources.now }
         requires room { 0 < room_in self.old }
-        ensures sends { sends_shown (parts_of sources.now) self.new ≡ and_sent to (text_of (parts_of sources.now) text) branch (sends_shown (parts_of sources.now) self.old) }
-        ensures read { AllRead (parts_of sources.now) self.old → AllRead (parts_of sources.now) self.new }
+        ensures sends { sends_shown (parts_from sources.now (passed_on desk.old)) self.new ≡ and_sent to (text_of (parts_from sources.now (passed_on desk.old)) text) branch (sends_shown (parts_from sources.now (passed_on desk.old)) self.old) }
+        ensures read { AllRead (parts_from sources.now (passed_on desk.old)) self.old → AllRead (parts_from sources.now (passed_on desk.old)) self.new }
         ensures room { room_in self.old ≤ room_in self.new + 1 }
         // The text lies on the desk where it reads.
-        ensures text { text_on desk.new ≡ kept_of (text_of (parts_of sources.now) text) }
+        ensures text { text_on desk.new ≡ kept_of (text_of (parts_from sources.now (passed_on desk.old)) text) }
+        ensures passed { passed_on desk.new ≡ passed_on desk.old }
         ensures last { (old : Option (List ℕ)) → last_on desk.new old ≡ last_on desk.old old }
     {
         if desk.is_sendable(sources, &text) {
@@ -85,10 +97,11 @@ impl Outbox {
     /// Writes the first datagram that is left, and tells where it goes; none where none is left.
     pub fn next(&mut self, desk: &mut Desk, sources: &Sources<'_>) -> Option<Addressed>
         requires read { AreRead sources.now }
-        requires all_read { AllRead (parts_of sources.now) self.old }
-        ensures next { MatchOption result (sends_shown (parts_of sources.now) self.old ≡ []) (λ a. sends_shown (parts_of sources.now) self.old
-            ≡ record { to = a.to; text = text_on desk.new; branch = a.branch } ∷ sends_shown (parts_of sources.now) self.new) }
-        ensures read { AllRead (parts_of sources.now) self.new }
+        requires all_read { AllRead (parts_from sources.now (passed_on desk.old)) self.old }
+        ensures next { MatchOption result (sends_shown (parts_from sources.now (passed_on desk.old)) self.old ≡ []) (λ a. sends_shown (parts_from sources.now (passed_on desk.old)) self.old
+            ≡ record { to = a.to; text = text_on desk.new; branch = a.branch } ∷ sends_shown (parts_from sources.now (passed_on desk.old)) self.new) }
+        ensures read { AllRead (parts_from sources.now (passed_on desk.old)) self.new }
+        ensures passed { passed_on desk.new ≡ passed_on desk.old }
         ensures last { (old : Option (List ℕ)) → last_on desk.new old ≡ last_on desk.old old }
     {
         if self.written >= self.list.len() {

@@ -1,1 +1,3 @@
+mod Branches
 mod Responding
+mod Shown
