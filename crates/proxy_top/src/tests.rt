@@ -3,7 +3,6 @@
 mod blocks;
 mod checks;
 mod handed_on;
-mod meanings;
 mod runs;
 mod syntax;
 mod traces;
