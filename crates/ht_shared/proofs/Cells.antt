@@ -14,7 +14,7 @@ use Rattle.ht_shared.specs.declared.cell.TablesFixed.{TablesFixed}
 use Rattle.ht_shared.specs.Stands.{IsAfter, TableStands}
 
 -- each cell of new tables has one without items
-pub each_fresh : (cells : List TableCell) (specs : List TableSpec) → map (λ (c : TableCell). state_of c.table) cells ≡ map fresh specs → (k : ℕ) (c : TableCell) → get_elem? cells k ≡ some c → (spec : TableSpec) × (slice_get specs k ≡ Some spec) × (fresh spec ≡ state_of c.table)
+pub each_fresh : (cells : List TableCell) (specs : List TableSpec) → map (λ (c : TableCell). state_of c.table.value) cells ≡ map fresh specs → (k : ℕ) (c : TableCell) → get_elem? cells k ≡ some c → (spec : TableSpec) × (slice_get specs k ≡ Some spec) × (fresh spec ≡ state_of c.table.value)
 each_fresh [] specs e k c is = absurd (some-ne-none c (sym is))
 each_fresh (x ∷ xs) [] e k c is = absurd (differ e)
   where
@@ -25,8 +25,8 @@ each_fresh (x ∷ xs) (y ∷ ys) e zero c is = (y, refl, first)
     head : {A : Type 0} {a b : A} {xs ys : List A} → (a ∷ xs) ≡ (b ∷ ys) → a ≡ b
     head e = cc
 
-    first : fresh y ≡ state_of c.table
-    first = sym (head e) ∙ ap (λ (z : TableCell). state_of z.table) (some-injective x c is)
+    first : fresh y ≡ state_of c.table.value
+    first = sym (head e) ∙ ap (λ (z : TableCell). state_of z.table.value) (some-injective x c is)
 each_fresh (x ∷ xs) (y ∷ ys) e (suc k) c is = each_fresh xs ys (rest e) k c is
   where
     rest : {A : Type 0} {a b : A} {xs ys : List A} → (a ∷ xs) ≡ (b ∷ ys) → xs ≡ ys

@@ -14,4 +14,4 @@ abbrev pub IsAfter : TablesFixed → ℕ → List TabRecord → TableState → T
 IsAfter f k rs t = (spec : TableSpec) × (slice_get f.specs.items k ≡ Some spec) × Runs (IsStep f.patterns.value) (fresh spec) rs t
 
 abbrev pub TableStands : TablesFixed → ℕ → TableCell → List TabRecord → Type 0
-TableStands f k c rs = IsAfter f k rs (state_of c.table)
+TableStands f k c rs = IsAfter f k rs (state_of c.table.value)

@@ -10,10 +10,10 @@ use std::alloc::AllocError as NoMemory;
 use std::snapshot::Snapshot;
 use turn_table::TurnCell;
 
-/// A table that workers take turns at.
+/// A table that workers take turns at. A turn moves a pointer to it.
 #[derive(Drop)]
 pub struct TableCell {
-    pub table: Table,
+    pub table: Box<Table>,
 }
 
 /// What is fixed of all tables.

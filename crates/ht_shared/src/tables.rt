@@ -113,11 +113,11 @@ fn fresh_cells(
     specs: &[TableSpec],
     state: HashState,
 ) -> Result<Vec<TableCell>, NoMemory>
-    ensures { IfOk result (λ v. map (λ c. state_of c.table) v.items ≡ map fresh specs.now) }
+    ensures { IfOk result (λ v. map (λ c. state_of c.table.value) v.items ≡ map fresh specs.now) }
 {
     let mut cells = Vec::with_capacity(alloc, specs.len())?;
     for k in 0..specs.len() {
-        let table = Table::with_hasher(alloc, specs[k], state)?;
+        let table = Box::new(alloc, Table::with_hasher(alloc, specs[k], state)?)?;
         cells.push_reserved(TableCell { table });
     }
     Ok(cells)

@@ -8,5 +8,5 @@ abbrev pub invariant-loop-k : goal.invariant-loop-k
 invariant-loop-k l = record {
   count : vec_len l.cells ≡ l.k;
   room : length l.specs ≤ vec_capacity l.cells;
-  tables : map (λ c. state_of c.table) l.cells.items ≡ map fresh (take l.k l.specs);
+  tables : map (λ c. state_of c.table.value) l.cells.items ≡ map fresh (take l.k l.specs);
 }

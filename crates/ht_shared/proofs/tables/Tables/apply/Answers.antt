@@ -3,6 +3,7 @@ use Rattle.std.specs.List.{slice_get}
 use Rattle.ht_core.specs.declared.operation.TabRecord.{TabRecord}
 use Rattle.ht_core.specs.Tables.{fresh, IsStep}
 use Rattle.ht_core.specs.Shown.{state_of}
+use Rattle.ht_core.specs.declared.table.Table.{Table}
 use Rattle.turn_table.specs.Tables.{fixed_of}
 use Rattle.turn_table.specs.Passes.{history_of}
 use Rattle.turn_table.proofs.Objects.{did_in_turn, runs_told}
@@ -14,10 +15,11 @@ pub give_told-requires-clause-stands : goal.give_told-requires-clause-stands
 give_told-requires-clause-stands g c κs =
     let t = c.take-turn.ensures.took in
     let f = fixed_of c.args.self.now.turns in
-    let old = state_of c.take-turn.result.value.table in
+    let old = state_of c.take-turn.result.value.table.value in
     let new = state_of c.apply-reply.new.self in
     let x : TabRecord = record { op = c.args.op; now = c.args.now; reply = c.apply-reply.result } in
-    let step = subst (λ (ps : List (List ℕ)). IsStep ps old x new) c.requires.patterns c.apply-reply.ensures.step in (
+    let at : IsStep c.args.patterns.now old x new = subst (λ (t : Table). IsStep c.args.patterns.now (state_of t) x new) c.deref_mut.ensures.value c.apply-reply.ensures.step in
+    let step = subst (λ (ps : List (List ℕ)). IsStep ps old x new) c.requires.patterns at in (
       x,
       (λ i. record { op = sym c.of-asked.ensures i; now = c.args.now; reply = sym c.of.ensures i }),
       (
@@ -31,11 +33,12 @@ pub returns : goal.returns
 returns g c =
     let t = c.take-turn.ensures.took in
     let f = fixed_of c.args.self.now.turns in
-    let old = state_of c.take-turn.result.value.table in
+    let old = state_of c.take-turn.result.value.table.value in
     let new = state_of c.apply-reply.new.self in
     let x : TabRecord = record { op = c.args.op; now = c.args.now; reply = c.apply-reply.result } in
     let shown : x ≡ operation (record { op = c.of-asked.result; now = c.args.now; reply = c.of.result }) = λ i. record { op = sym c.of-asked.ensures i; now = c.args.now; reply = sym c.of.ensures i } in
-    let step = subst (λ (ps : List (List ℕ)). IsStep ps old x new) c.requires.patterns c.apply-reply.ensures.step in record {
+    let at : IsStep c.args.patterns.now old x new = subst (λ (t : Table). IsStep c.args.patterns.now (state_of t) x new) c.deref_mut.ensures.value c.apply-reply.ensures.step in
+    let step = subst (λ (ps : List (List ℕ)). IsStep ps old x new) c.requires.patterns at in record {
       spec = t.right.0;
       is_spec = t.right.1;
       did = did_in_turn TableStands (IsStep f.patterns.value) (fresh t.right.0) old new f c.args.table c.args.pass.now c.take-turn.new.pass c.give_told.new.pass c.take-turn.result
